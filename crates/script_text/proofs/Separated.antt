@@ -1,0 +1,56 @@
+-- The words of a line, by its first space.
+use Rattle.std.proofs.Common.{◌≡◌, ℕ, ◌+◌, ◌<◌, suc, Bool, true, false, List, [], ◌∷◌, ◌++◌, length, take, drop, get_or, Err, refl, sym, ap, ◌∙◌, inl, inr, take-append-drop, drop-cons, add-one}
+use Rattle.std.specs.Prelude.{not, ◌&&◌, ◌==◌}
+use Rattle.std.proofs.lemmas.Bool.{and_parts, not-true, and_from, cases_Bool}
+use Rattle.store_model.specs.declared.item.BadLine.TheVariants.{Syntax}
+use Rattle.store_model.specs.Lines.{in_front}
+use Rattle.store_model.specs.Numbers.{words_of, no_word}
+
+-- no byte is a space
+abbrev pub is_word : List ℕ → Bool
+is_word [] = true
+is_word (b ∷ bytes) = not (b == 32) && is_word bytes
+
+pub is_word-push : (word : List ℕ) (b : ℕ) → is_word word ≡ true → (b == 32) ≡ false → is_word (word ++ b ∷ []) ≡ true
+is_word-push [] b h e = rw e refl
+is_word-push (x ∷ word) b h e =
+    let parts = and_parts _ (is_word word) h in
+    and_from _ _ parts.0 (is_word-push word b parts.1 e)
+
+words_of-other : (b : ℕ) (bytes : List ℕ) → (b == 32) ≡ false → words_of (b ∷ bytes) ≡ in_front b (words_of bytes)
+words_of-other b bytes e = rw e refl
+
+-- a word, a space, and the words behind
+pub words_of-word : (word rest : List ℕ) → is_word word ≡ true → words_of (word ++ 32 ∷ rest) ≡ word ∷ words_of rest
+words_of-word [] rest h = refl
+words_of-word (b ∷ word) rest h =
+    let parts = and_parts _ (is_word word) h in
+    words_of-other b (word ++ 32 ∷ rest) (not-true (b == 32) parts.0) ∙ ap (in_front b) (words_of-word word rest parts.1)
+
+-- one word alone
+pub words_of-last : (word : List ℕ) → is_word word ≡ true → words_of word ≡ word ∷ []
+words_of-last [] h = refl
+words_of-last (b ∷ word) h =
+    let parts = and_parts _ (is_word word) h in
+    words_of-other b word (not-true (b == 32) parts.0) ∙ ap (in_front b) (words_of-last word parts.1)
+
+no_word-in_front : (b : ℕ) (parts : List (List ℕ)) → no_word (in_front b parts) ≡ Err Syntax
+no_word-in_front b [] = refl
+no_word-in_front b (part ∷ parts) = refl
+
+-- there is always a first word
+pub no_word_of_text : (bytes : List ℕ) → no_word (words_of bytes) ≡ Err Syntax
+no_word_of_text [] = refl
+no_word_of_text (b ∷ bytes) =
+    elim (cases_Bool (b == 32)) [
+      | inl e ↦ rw e refl
+      | inr e ↦ ap no_word (words_of-other b bytes e) ∙ no_word-in_front b (words_of bytes)
+    ]
+
+-- the text around its first space
+pub split_at_space : (text : List ℕ) (at : ℕ) → at < length text → is_word (take at text) ≡ true → get_or text at 0 ≡ 32
+    → words_of text ≡ take at text ∷ words_of (drop (at + 1) text)
+split_at_space text at within word space =
+    ap words_of (sym (take-append-drop at text) ∙ ap (λ rest. take at text ++ rest) (drop-cons text at 0 within ∙ ap (λ b. b ∷ drop (suc at) text) space))
+    ∙ words_of-word (take at text) (drop (suc at) text) word
+    ∙ ap (λ n. take at text ∷ words_of (drop n text)) (sym (add-one at))
