@@ -4,7 +4,9 @@ use Rattle.std.specs.Prelude.{not, ◌&&◌, ◌==◌}
 use Rattle.std.proofs.lemmas.Bool.{and_parts, not-true, and_from, cases_Bool}
 use Rattle.store_model.specs.declared.item.BadLine.TheVariants.{Syntax}
 use Rattle.store_model.specs.Lines.{in_front}
-use Rattle.store_model.specs.Numbers.{words_of, no_word}
+use Rattle.store_model.specs.declared.command.Command.TheVariants.{NewArray}
+use Rattle.store_model.specs.Numbers.{words_of, no_word, one_number, ◌>>=◌}
+use Rattle.store_model.specs.CommandGrammar.{in_range, new_tail}
 
 -- no byte is a space
 abbrev pub is_word : List ℕ → Bool
@@ -45,6 +47,21 @@ no_word_of_text (b ∷ bytes) =
     elim (cases_Bool (b == 32)) [
       | inl e ↦ rw e refl
       | inr e ↦ ap no_word (words_of-other b bytes e) ∙ no_word-in_front b (words_of bytes)
+    ]
+
+new_tail-in_front : (root type_id b : ℕ) (parts : List (List ℕ))
+    → new_tail root type_id (in_front b parts) ≡ (one_number (in_front b parts) >>= (λ len. in_range (NewArray root type_id len)))
+new_tail-in_front root type_id b [] = refl
+new_tail-in_front root type_id b (part ∷ parts) = refl
+
+-- a word behind the type id is the length of an array
+pub new_tail_of_text : (root type_id : ℕ) (bytes : List ℕ)
+    → new_tail root type_id (words_of bytes) ≡ (one_number (words_of bytes) >>= (λ len. in_range (NewArray root type_id len)))
+new_tail_of_text root type_id [] = refl
+new_tail_of_text root type_id (b ∷ bytes) =
+    elim (cases_Bool (b == 32)) [
+      | inl e ↦ rw e refl
+      | inr e ↦ rw (words_of-other b bytes e) (new_tail-in_front root type_id b (words_of bytes))
     ]
 
 -- the text around its first space

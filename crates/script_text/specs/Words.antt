@@ -1,8 +1,12 @@
 -- The words of a line that are still to be read, and what a function that reads some of them gives.
 use Rattle.std.specs.Prelude.{◌≡◌, ℕ, Bool, if◌then◌else◌, List, [], Option, Some, None, Result, Ok, Err, option_copied}
+use Rattle.type_table.specs.declared.info.Shape.{Shape}
+use Rattle.store_model.specs.declared.item.Item.{Item}
 use Rattle.store_model.specs.declared.item.BadLine.{BadLine}
 use Rattle.store_model.specs.declared.item.BadLine.TheVariants.{Range}
-use Rattle.store_model.specs.Numbers.{words_of}
+use Rattle.store_model.specs.Range.{is_above_ids}
+use Rattle.store_model.specs.Numbers.{words_of, ◌>>=◌, one_number, two_numbers}
+use Rattle.store_model.specs.Grammar.{end_of_type, type_in_range}
 use Rattle.script_text.specs.declared.words.Words.{Words}
 
 -- the words of the part of a line that is left, which may be none
@@ -22,3 +26,24 @@ Gives view (Err e) read = read ≡ Err e
 -- the number, if it is not above the greatest of its place
 abbrev pub unless_above : Bool → ℕ → Result ℕ BadLine
 unless_above above n = if above then Err Range else Ok n
+
+-- one slot, queue or structure, and no word behind its number
+abbrev pub one_slot : List (List ℕ) → Result ℕ BadLine
+one_slot words = do
+  slot ← one_number words
+  unless_above (is_above_ids slot) slot
+
+-- two of them, and no word behind their numbers
+abbrev pub two_slots : List (List ℕ) → Result (ℕ × ℕ) BadLine
+two_slots words = do
+  slots ← two_numbers words
+  a ← unless_above (is_above_ids slots.0) slots.0
+  b ← unless_above (is_above_ids slots.1) slots.1
+  Ok (a, b)
+
+-- what a type line says, by its id and its shape
+abbrev pub type_of : ℕ → Result (Shape × List (List ℕ)) BadLine → Result Item BadLine
+type_of id read = do
+  shape ← read
+  destructor ← end_of_type shape.0 shape.1
+  type_in_range id (record { shape = shape.0; destructor = destructor })

@@ -1,0 +1,14 @@
+use Rattle.std.proofs.Common.{sym, ◌∙◌, arith}
+use Rattle.std.proofs.lemmas.Bool.{ne_eqb}
+use Rattle.script_text.proofs.Blank.{item_of-blank, item_of-comment, item_of-form}
+use Rattle.script_text.proofs.parse.parse_line.Goals as goal
+use Rattle.script_text.proofs.parse.parse_line.Goals.{then-is_empty-via-then-is_empty, then-is_empty-via-else-is_empty+then-line-eq35}
+
+pub returns-then-is_empty : goal.returns-then-is_empty
+returns-then-is_empty c = elim c.then-is_empty.branch [
+  | then-is_empty-via-then-is_empty w ↦ sym (item_of-blank c.args.line.now (grind arith))
+  | then-is_empty-via-else-is_empty+then-line-eq35 w ↦ sym (item_of-comment c.args.line.now (grind arith) w.if-line-eq35.true)
+]
+
+pub returns : goal.returns
+returns c = c.parse_form.ensures ∙ sym (item_of-form c.args.line.now (grind arith) (ne_eqb _ 35 c.if-line-eq35.false))
