@@ -19,7 +19,7 @@ is_word-push (x ∷ word) b h e =
     let parts = and_parts _ (is_word word) h in
     and_from _ _ parts.0 (is_word-push word b parts.1 e)
 
-words_of-other : (b : ℕ) (bytes : List ℕ) → (b == 32) ≡ false → words_of (b ∷ bytes) ≡ in_front b (words_of bytes)
+pub words_of-other : (b : ℕ) (bytes : List ℕ) → (b == 32) ≡ false → words_of (b ∷ bytes) ≡ in_front b (words_of bytes)
 words_of-other b bytes e = rw e refl
 
 -- a word, a space, and the words behind
@@ -36,33 +36,24 @@ words_of-last (b ∷ word) h =
     let parts = and_parts _ (is_word word) h in
     words_of-other b word (not-true (b == 32) parts.0) ∙ ap (in_front b) (words_of-last word parts.1)
 
-no_word-in_front : (b : ℕ) (parts : List (List ℕ)) → no_word (in_front b parts) ≡ Err Syntax
-no_word-in_front b [] = refl
-no_word-in_front b (part ∷ parts) = refl
-
 -- there is always a first word
-pub no_word_of_text : (bytes : List ℕ) → no_word (words_of bytes) ≡ Err Syntax
-no_word_of_text [] = refl
-no_word_of_text (b ∷ bytes) =
+pub words_of-some : (bytes : List ℕ) → (word : List ℕ) × (words : List (List ℕ)) × (words_of bytes ≡ word ∷ words)
+words_of-some [] = ([], [], refl)
+words_of-some (b ∷ bytes) =
     elim (cases_Bool (b == 32)) [
-      | inl e ↦ rw e refl
-      | inr e ↦ ap no_word (words_of-other b bytes e) ∙ no_word-in_front b (words_of bytes)
+      | inl e ↦ ([], words_of bytes, rw e refl)
+      | inr e ↦
+          let some = words_of-some bytes in
+          (b ∷ some.0, some.1, words_of-other b bytes e ∙ ap (in_front b) some.2)
     ]
 
-new_tail-in_front : (root type_id b : ℕ) (parts : List (List ℕ))
-    → new_tail root type_id (in_front b parts) ≡ (one_number (in_front b parts) >>= (λ len. in_range (NewArray root type_id len)))
-new_tail-in_front root type_id b [] = refl
-new_tail-in_front root type_id b (part ∷ parts) = refl
+pub no_word_of_text : (bytes : List ℕ) → no_word (words_of bytes) ≡ Err Syntax
+no_word_of_text bytes = let some = words_of-some bytes in ap no_word some.2
 
 -- a word behind the type id is the length of an array
 pub new_tail_of_text : (root type_id : ℕ) (bytes : List ℕ)
     → new_tail root type_id (words_of bytes) ≡ (one_number (words_of bytes) >>= (λ len. in_range (NewArray root type_id len)))
-new_tail_of_text root type_id [] = refl
-new_tail_of_text root type_id (b ∷ bytes) =
-    elim (cases_Bool (b == 32)) [
-      | inl e ↦ rw e refl
-      | inr e ↦ rw (words_of-other b bytes e) (new_tail-in_front root type_id b (words_of bytes))
-    ]
+new_tail_of_text root type_id bytes = let some = words_of-some bytes in rw some.2 refl
 
 -- the text around its first space
 pub split_at_space : (text : List ℕ) (at : ℕ) → at < length text → is_word (take at text) ≡ true → get_or text at 0 ≡ 32
