@@ -12,21 +12,17 @@ use Rattle.store_model.specs.Numbers.{◌>>=◌, number_word, no_word, one_numbe
 use Rattle.store_model.specs.CommandGrammar.{in_range, no_numbers, with_one, with_two, with_three, new_tail, new_form, copy_form, link_form, kind_word, structure_form, slot_form, command_form}
 use Rattle.store_model.specs.ItemText.{decimals, command_words, link_word, light_word}
 use Rattle.script_text.specs.ItemLine.{StoresWord, IsCommandInRange}
-use Rattle.script_text.proofs.ReadWords.{both_gave, number_word-is, no_word-is, one_number-is, two_numbers-is, three_numbers-is, five_numbers-is}
+use Rattle.script_text.proofs.ReadWords.{both_gave, by_keyword, ok_unless, number_word-is, no_word-is, one_number-is, two_numbers-is, three_numbers-is, five_numbers-is}
 
 -- the words are those of the command's line
 pub record IsSpelled (words : List (List ℕ)) (command : Command) : Type 0 where
   pub spelled : words ≡ command_words command
   pub in_range : IsCommandInRange command
 
-ok_unless : (b : Bool) (d c : Command) → (if b then Err Range else Ok d) ≡ Ok c → (b ≡ false) × (d ≡ c)
-ok_unless true d c h = cc
-ok_unless false d c h = (refl, cc)
-
 -- the command whose words these are was found to be in range
 in_range-is : (words : List (List ℕ)) (d c : Command) → words ≡ command_words d → StoresWord d → in_range d ≡ Ok c → IsSpelled words c
 in_range-is words d c spelled stored h =
-    let parts = ok_unless (is_above d) d c h in
+    let parts = ok_unless (is_above d) d c Range h in
     record {
       spelled = spelled ∙ ap command_words parts.1;
       in_range = record { below = sym (ap is_above parts.1) ∙ parts.0; stored = subst StoresWord parts.1 stored };
@@ -64,13 +60,7 @@ with_three-is word words f c spelled stored h =
 keyword_or_rest : (word keyword : List ℕ) (taken passed : Result Command BadLine) (words : List (List ℕ)) (c : Command)
     → (if bytes_eq word keyword then taken else passed) ≡ Ok c
     → (taken ≡ Ok c → IsSpelled (keyword ∷ words) c) → (passed ≡ Ok c → IsSpelled (word ∷ words) c) → IsSpelled (word ∷ words) c
-keyword_or_rest word keyword taken passed words c h here rest =
-    elim (cases_Bool (bytes_eq word keyword)) [
-      | inl e ↦
-          let same : keyword ≡ word = sym ((bytes_eq-Decides word keyword).0 e) in
-          subst (λ w. IsSpelled (w ∷ words) c) same (here (rw e at h))
-      | inr e ↦ rest (rw e at h)
-    ]
+keyword_or_rest word keyword taken passed words c h here rest = by_keyword (λ w. IsSpelled (w ∷ words) c) word keyword taken passed c h here rest
 
 new_tail-is : (root type_id : ℕ) (words behind : List (List ℕ)) (c : Command)
     → words ≡ decimal root ∷ decimal type_id ∷ behind → new_tail root type_id behind ≡ Ok c → IsSpelled (codes "new" ∷ words) c
@@ -100,19 +90,9 @@ copy_form-is words c h =
 kind_word-is : (words : List (List ℕ)) (read : Bool × List (List ℕ)) → kind_word words ≡ Ok read → words ≡ light_word read.0 ∷ read.1
 kind_word-is [] read h = cc
 kind_word-is (word ∷ words) read h =
-    elim (cases_Bool (bytes_eq word (codes "light"))) [
-      | inl light ↦
-          let same : word ≡ codes "light" = (bytes_eq-Decides word (codes "light")).0 light in
-          let given : (true, words) ≡ read = cc (rw light at h) in
-          ap (λ w. w ∷ words) same ∙ ap (λ x. light_word x.0 ∷ x.1) given
-      | inr heavy ↦ elim (cases_Bool (bytes_eq word (codes "plain"))) [
-        | inl plain ↦
-            let same : word ≡ codes "plain" = (bytes_eq-Decides word (codes "plain")).0 plain in
-            let given : (false, words) ≡ read = cc (rw (heavy, plain) at h) in
-            ap (λ w. w ∷ words) same ∙ ap (λ x. light_word x.0 ∷ x.1) given
-        | inr neither ↦ cc (rw (heavy, neither) at h)
-      ]
-    ]
+    let P : List ℕ → Type 0 = λ w. w ∷ words ≡ light_word read.0 ∷ read.1 in
+    by_keyword P word (codes "light") _ _ read h (λ h. let given : (true, words) ≡ read = cc in ap (λ x. light_word x.0 ∷ x.1) given) (λ h.
+    by_keyword P word (codes "plain") _ _ read h (λ h. let given : (false, words) ≡ read = cc in ap (λ x. light_word x.0 ∷ x.1) given) (λ h. cc))
 
 link_form-is : (p : Bool) (words : List (List ℕ)) (c : Command) → link_form p words ≡ Ok c → IsSpelled (link_word p ∷ words) c
 unfolding link_form command_words

@@ -1,6 +1,8 @@
 -- What reading numbers gives of words that write them, and which words it was then given.
-use Rattle.std.proofs.Common.{◌≡◌, ℕ, ◌^◌, ◌<◌, Bool, true, false, List, [], ◌∷◌, Option, Some, None, Result, Ok, Err, refl, sym, ap, ◌∙◌, subst}
-use Rattle.std.specs.Prelude.{decimal, if◌then◌else◌}
+use Rattle.std.proofs.Common.{◌≡◌, ℕ, ◌^◌, ◌<◌, Bool, true, false, List, [], ◌∷◌, Option, Some, None, Result, Ok, Err, refl, sym, ap, ◌∙◌, subst, inl, inr}
+use Rattle.std.specs.Prelude.{decimal, bytes_eq, if◌then◌else◌}
+use Rattle.std.proofs.lemmas.Bool.{cases_Bool}
+use Rattle.std.proofs.lemmas.Slice.Eq.{bytes_eq-Decides}
 use Rattle.store_model.specs.declared.item.BadLine.{BadLine}
 use Rattle.store_model.specs.Numbers.{number_of, ◌>>=◌, number_or_syntax, number_word, no_word, one_number, two_numbers, three_numbers, five_numbers}
 use Rattle.store_model.specs.ItemText.{decimals}
@@ -11,6 +13,20 @@ pub both_gave : {A B : Type 0} (P : Type 0) (r : Result A BadLine) (f : A → Re
     → ((a : A) → r ≡ Ok a → f a ≡ Ok b → P) → P
 both_gave P (Ok a) f b h next = next a refl h
 both_gave P (Err e) f b h next = cc
+
+-- the word is this keyword, or what stands behind the test read it
+pub by_keyword : {A : Type 0} (P : List ℕ → Type 0) (word keyword : List ℕ) (taken passed : Result A BadLine) (a : A)
+    → (if bytes_eq word keyword then taken else passed) ≡ Ok a → (taken ≡ Ok a → P keyword) → (passed ≡ Ok a → P word) → P word
+by_keyword P word keyword taken passed a h here rest =
+    elim (cases_Bool (bytes_eq word keyword)) [
+      | inl e ↦ subst P (sym ((bytes_eq-Decides word keyword).0 e)) (here (rw e at h))
+      | inr e ↦ rest (rw e at h)
+    ]
+
+-- a test found no number above the greatest of its place
+pub ok_unless : {A : Type 0} (above : Bool) (a b : A) (bad : BadLine) → (if above then Err bad else Ok a) ≡ Ok b → (above ≡ false) × (a ≡ b)
+ok_unless true a b bad h = cc
+ok_unless false a b bad h = (refl, cc)
 
 pub number_word-decimal : (n : ℕ) (words : List (List ℕ)) → n < 2 ^ 64 → number_word (decimal n ∷ words) ≡ Ok (n, words)
 number_word-decimal n words small = ap (λ o. number_or_syntax o words) (number_of-decimal n small)
