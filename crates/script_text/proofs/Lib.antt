@@ -1,6 +1,8 @@
 pub mod Blank
+pub mod CommandReading
 pub mod CommandSpelling
 pub mod Decimals
+pub mod ItemReading
 pub mod ItemSpelling
 pub mod Joined
 pub mod Numerals
