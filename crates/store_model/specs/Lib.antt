@@ -22,3 +22,4 @@ pub mod CommandGrammar
 pub mod ItemText
 pub mod Script
 pub mod EndOfRun
+pub mod ErrorText

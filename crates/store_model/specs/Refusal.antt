@@ -112,12 +112,15 @@ words_checks setup store (NewArray root type_id len) =
     room_checks setup.settings (type_words (type_at setup type_id) len) (unsettled_words store.kept store.settled) (kept_words store.kept)
 words_checks setup store command = []
 
+-- the checks of a command none of whose numbers is out of range, in order
+abbrev pub checks_in_range : Setup → Store → Command → Checks
+checks_in_range setup store command =
+    (is_unbuilt command, NotBuilt)
+    ∷ (slots_checks setup.settings.roots (slots_of command) ++ (further_checks setup store command ++ words_checks setup store command))
+
 -- all checks of a command, in order
 abbrev pub command_checks : Setup → Store → Command → Checks
-command_checks setup store command =
-    (is_above command, Range)
-    ∷ (is_unbuilt command, NotBuilt)
-    ∷ (slots_checks setup.settings.roots (slots_of command) ++ (further_checks setup store command ++ words_checks setup store command))
+command_checks setup store command = (is_above command, Range) ∷ checks_in_range setup store command
 
 -- why an item is refused, if it is
 unfoldable pub refusal : Progress → Item → Option Reason
