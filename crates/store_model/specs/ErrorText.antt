@@ -31,7 +31,7 @@ reason_text reason.CountFull = codes "CountFull"
 reason_text reason.CountZero = codes "CountZero"
 
 abbrev pub malformed_text : ℕ → Reason → List ℕ
-malformed_text line reason = codes "malformed: line " ++ decimal line ++ codes ": " ++ reason_text reason ++ codes "\n"
+malformed_text line reason = (codes "malformed: line " ++ decimal line) ++ ((codes ": " ++ reason_text reason) ++ codes "\n")
 
 abbrev pub usage_text : List ℕ
 usage_text = codes "usage: replay FILE, or bench START COUNT\n"
