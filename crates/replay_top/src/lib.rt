@@ -17,3 +17,6 @@ mod top;
 
 pub use heap::Heap;
 pub use top::{Status, run};
+
+#[cfg(test)]
+mod tests;
