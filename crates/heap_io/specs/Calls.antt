@@ -1,5 +1,6 @@
 -- The calls of an object in memory, some of which are to fail.
-use Rattle.std.specs.Prelude.{ℕ, ◌+◌, ◌-◌, ◌^◌, min, List, Contains}
+use Rattle.std.specs.Prelude.{ℕ, List, Contains}
+use Rattle.heap_io.specs.Causes.{next_count}
 
 pub record CallCounts : Type 0 where
   -- the numbers of the calls that are to fail
@@ -9,9 +10,9 @@ pub record CallCounts : Type 0 where
   -- how many of them failed
   pub faults : ℕ
 
--- The number after n. It stands still at the greatest number of 64 bits.
-abbrev pub next_count : ℕ → ℕ
-next_count n = min (n + 1) (2 ^ 64 - 1)
+-- The counts before the first call.
+abbrev pub before_calls : List ℕ → CallCounts
+before_calls fails = record { fails = fails; made = 0; faults = 0 }
 
 -- The next call is on the list of those that are to fail. Calls are counted from 1.
 abbrev pub IsToFail : CallCounts → Type 0

@@ -11,12 +11,14 @@ pub record NamedBytes : Type 0 where
 -- The bytes of the first file with a name, where there is one.
 abbrev pub bytes_of : List NamedBytes → List ℕ → Option (List ℕ)
 bytes_of [] name = None
-bytes_of (file ∷ files) name = if bytes_eq file.name name then Some file.bytes else bytes_of files name
+bytes_of (file ∷ files) name =
+    if bytes_eq file.name name then Some file.bytes else bytes_of files name
 
 -- No two files have one name.
 abbrev pub names_differ : List NamedBytes → Bool
 names_differ [] = true
-names_differ (file ∷ files) = list_all (λ other. not (bytes_eq file.name other.name)) files && names_differ files
+names_differ (file ∷ files) =
+    list_all (λ other. not (bytes_eq file.name other.name)) files && names_differ files
 
 -- The bytes of a file that there may be.
 abbrev pub bytes_or_none : Option NamedBytes → List ℕ

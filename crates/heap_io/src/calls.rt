@@ -2,8 +2,8 @@
 //!
 //! It is a list of call numbers beside two counters. Calls are counted from 1.
 ghost use Rattle.std.specs.Prelude.{◌≡◌, ◌≤◌, ◌↔◌, IsErr, OnErr, OnOk};
-ghost use Rattle.heap_io.specs.Calls.{IsToFail, after_fault, after_success, next_count};
-ghost use Rattle.heap_io.specs.Causes.{HasCause};
+ghost use Rattle.heap_io.specs.Calls.{IsToFail, after_fault, after_success, before_calls};
+ghost use Rattle.heap_io.specs.Causes.{HasCause, next_count};
 
 use crate::Failed;
 use std::marker::Model;
@@ -27,7 +27,7 @@ impl Model for Calls {
 impl Calls {
     /// No call was made yet. Those of the list are to fail.
     pub(crate) fn new(fails: Vec<u64>) -> Calls
-        ensures { result ≡ record { fails = fails.items; made = 0; faults = 0 } }
+        ensures { result ≡ before_calls fails.items }
     {
         Calls {
             fails,

@@ -2,10 +2,9 @@
 //!
 //! Each is std's own file or writer beside a counter. No contract can say which bytes the machine
 //! gives or takes, so neither tells any.
-ghost use Rattle.std.specs.Prelude.{◌≡◌, ◌<◌, ◌≤◌, IfOk, MatchResult, length};
+ghost use Rattle.std.specs.Prelude.{◌≡◌, ◌<◌, ◌≤◌, IfOk, length};
 ghost use Rattle.std.specs.Io.{ReadsAtMost};
-ghost use Rattle.heap_io.specs.Calls.{next_count};
-ghost use Rattle.heap_io.specs.Causes.{HasCause};
+ghost use Rattle.heap_io.specs.Causes.{CountsErrors, HasCause};
 
 use crate::{Failed, Files, Sink};
 use std::fs;
@@ -62,7 +61,7 @@ impl<R: std::rt::Files> Files for DiskFiles<R> {
     ghost may_begin = { λ _ _. true };
 
     fn begin_file(&mut self, name: &[u8]) -> Result<(), Failed>
-        ensures counted { MatchResult result (λ _. self.new ≡ self.old) (λ _. self.new ≡ next_count self.old) }
+        ensures counted { CountsErrors self.old self.new result }
         ensures cause { HasCause self.old self.new result }
     {
         let opened = match std::str::from_utf8(name) {
@@ -83,7 +82,7 @@ impl<R: std::rt::Files> Files for DiskFiles<R> {
 
     fn read(&mut self, buf: &mut [u8]) -> Result<usize, Failed>
         requires { 0 < length buf.old }
-        ensures counted { MatchResult result (λ _. self.new ≡ self.old) (λ _. self.new ≡ next_count self.old) }
+        ensures counted { CountsErrors self.old self.new result }
         ensures bound { ReadsAtMost result buf.new }
         ensures cause { HasCause self.old self.new result }
     {
@@ -102,8 +101,8 @@ impl<R: std::rt::Files> Files for DiskFiles<R> {
 
 /// A sink over a writer.
 ///
-/// An interrupted call counts as one that failed, and so does one that takes no byte. Contracts see the
-/// count of faults.
+/// An interrupted call counts as one that failed, and so does one that takes no byte. Contracts see
+/// the count of faults.
 #[derive(Debug, Drop)]
 pub struct StdSink<W> {
     writer: W,
@@ -143,7 +142,7 @@ impl<W: Write> Sink for StdSink<W> {
 
     fn write(&mut self, piece: &[u8]) -> Result<usize, Failed>
         requires { 0 < length piece.now }
-        ensures counted { MatchResult result (λ _. self.new ≡ self.old) (λ _. self.new ≡ next_count self.old) }
+        ensures counted { CountsErrors self.old self.new result }
         ensures some { IfOk result (λ count. (0 < count) × (count ≤ length piece.now)) }
         ensures cause { HasCause self.old self.new result }
     {

@@ -13,7 +13,7 @@ mod sure;
 #[cfg(test)]
 mod tests;
 
-ghost use Rattle.std.specs.Prelude.{◌≡◌, ◌<◌, ◌≤◌, ℕ, List, Option, OnOk, IfOk, length, Bool, IsTrue};
+ghost use Rattle.std.specs.Prelude.{◌≡◌, ◌<◌, ◌≤◌, ℕ, Bool, List, Option, IfOk, IsTrue, OnOk, length};
 ghost use Rattle.std.specs.Io.{ReadsAtMost};
 ghost use Rattle.std.specs.Io.KnownBytes.{ReadConsumes, WriteAppends};
 ghost use Rattle.heap_io.specs.Causes.{HasCause};
@@ -52,8 +52,8 @@ pub trait Files {
 
     /// Begins the file of a name: its bytes are then the rest.
     ///
-    /// It fails only where the count of faults rises. No byte of the name is then taken, and nothing is
-    /// said of the rest.
+    /// It fails only where the count of faults rises. No byte of the name is then taken, and nothing
+    /// is said of the rest.
     fn begin_file(&mut self, name: &[u8]) -> Result<(), Failed>
         requires { IsTrue (may_begin self.old name.now) }
         ensures begun { OnOk result (rest self.new ≡ bytes self.old name.now) }
@@ -63,8 +63,8 @@ pub trait Files {
 
     /// Reads bytes from the front of the rest into the front of the buffer, and says how many.
     ///
-    /// It gives 0 at the end of the input alone. It fails only where the count of faults rises, and the
-    /// rest then stays as it was.
+    /// It gives 0 at the end of the input alone. It fails only where the count of faults rises, and
+    /// the rest then stays as it was.
     fn read(&mut self, buf: &mut [u8]) -> Result<usize, Failed>
         requires { 0 < length buf.old }
         ensures bound { ReadsAtMost result buf.new }

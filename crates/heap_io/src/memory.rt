@@ -1,11 +1,11 @@
 //! Files and a sink in memory, which fail at the calls that they are told to fail at.
 //!
 //! The files are a vector of names with bytes. What is still to be read is kept as the index of the
-//! file begun last and a place in its bytes. The sink is one vector whose room is taken at the start.
+//! file begun last and a place in its bytes. The sink is one vector, whose room is taken at once.
 ghost use Rattle.std.specs.Prelude.{◌≡◌, ◌+◌, ◌<◌, ◌≤◌, ◌↔◌, [], ◌++◌, IfSome, IfNone, IfOk, OnOk, OnErr, IsErr, IsTrue, length, min, slice_get};
 ghost use Rattle.std.specs.Io.{ReadsAtMost};
 ghost use Rattle.std.specs.Io.KnownBytes.{ReadConsumes};
-ghost use Rattle.heap_io.specs.Calls.{IsToFail, after_fault, after_success};
+ghost use Rattle.heap_io.specs.Calls.{IsToFail, after_fault, after_success, before_calls};
 ghost use Rattle.heap_io.specs.Causes.{HasCause};
 ghost use Rattle.heap_io.specs.Memory.{BeginFails, WriteFails, bytes_of, bytes_or_none, left_of, names_differ};
 
@@ -30,8 +30,8 @@ impl Model for NamedFile {
     ghost view = { λ f. record { name = f.name.items; bytes = f.bytes.items } };
 }
 
-/// Files in memory, by their names. Of the calls that begin a file or read, which are counted together
-/// from 1, those on a list fail.
+/// Files in memory, by their names. Of the calls that begin a file or read, which are counted
+/// together from 1, those on a list fail.
 #[derive(Debug, Drop)]
 pub struct MemFiles {
     files: Vec<NamedFile>,
@@ -46,16 +46,21 @@ impl Model for MemFiles {
 
     ghost Value = { FilesInMemory };
 
-    ghost view = { λ m. record { files = m.files.items; rest = left_of m.files.items m.current m.at; calls = m.calls } };
+    ghost view = { λ m. record {
+      files = m.files.items;
+      rest = left_of m.files.items m.current m.at;
+      calls = m.calls;
+    } };
 
-    ghost invariant = { λ m. IsTrue (names_differ m.files.items) × (m.at ≤ length (bytes_or_none (slice_get m.files.items m.current))) };
+    ghost invariant = { λ m. IsTrue (names_differ m.files.items)
+        × (m.at ≤ length (bytes_or_none (slice_get m.files.items m.current))) };
 }
 
 impl MemFiles {
     /// Files of which none is begun yet, so that nothing is left to be read.
     pub fn new(files: Vec<NamedFile>, fails: Vec<u64>) -> MemFiles
         requires { IsTrue (names_differ files.items) }
-        ensures { result ≡ record { files = files.items; rest = []; calls = record { fails = fails.items; made = 0; faults = 0 } } }
+        ensures { result ≡ record { files = files.items; rest = []; calls = before_calls fails.items } }
     {
         let current = files.len();
         MemFiles {
@@ -105,8 +110,8 @@ impl Files for MemFiles {
         Ok(())
     }
 
-    /// Fills the buffer as far as the rest goes. It fails exactly where the call is on the list, and
-    /// only the counts then change.
+    /// Fills the buffer as far as the rest goes. It fails exactly where the call is on the list,
+    /// and only the counts then change.
     fn read(&mut self, buf: &mut [u8]) -> Result<usize, Failed>
         requires { 0 < length buf.old }
         ensures failed { IsErr result ↔ IsToFail self.old.calls }
@@ -151,7 +156,8 @@ fn bytes_left(files: &[NamedFile], index: usize, at: usize) -> &[u8]
     }
 }
 
-/// A sink in memory, which takes each piece whole. Of the calls, counted from 1, those on a list fail.
+/// A sink in memory, which takes each piece whole. Of the calls, counted from 1, those on a list
+/// fail.
 #[derive(Debug, Drop)]
 pub struct MemSink {
     bytes: Vec<u8>,
@@ -173,7 +179,8 @@ impl Model for MemSink {
 impl MemSink {
     /// A sink for so many bytes. All its memory is taken here.
     pub fn new(alloc: Global, room: usize, fails: Vec<u64>) -> Result<MemSink, AllocError>
-        ensures { IfOk result (λ sink. sink ≡ record { written = []; room = room; calls = record { fails = fails.items; made = 0; faults = 0 } }) }
+        ensures { IfOk result (λ sink.
+            sink ≡ record { written = []; room = room; calls = before_calls fails.items }) }
     {
         Ok(MemSink {
             bytes: Vec::with_capacity(alloc, room)?,
@@ -204,13 +211,16 @@ impl Sink for MemSink {
 
     ghost faults = { λ s. s.calls.faults };
 
-    /// Takes the piece whole. It fails exactly where the call is on the list or the piece exceeds the
-    /// room left, and only the counts then change.
+    /// Takes the piece whole. It fails exactly where the call is on the list or the piece exceeds
+    /// the room left, and only the counts then change.
     fn write(&mut self, piece: &[u8]) -> Result<usize, Failed>
         requires { 0 < length piece.now }
         ensures failed { IsErr result ↔ WriteFails self.old piece.now }
         ensures whole { IfOk result (λ count. count ≡ length piece.now) }
-        ensures ok { OnOk result (self.new ≡ record self.old { written = self.old.written ++ piece.now; calls = after_success self.old.calls }) }
+        ensures ok { OnOk result (self.new ≡ record self.old {
+          written = self.old.written ++ piece.now;
+          calls = after_success self.old.calls;
+        }) }
         ensures err { OnErr result (self.new ≡ record self.old { calls = after_fault self.old.calls }) }
         ensures cause { HasCause self.old.calls.faults self.new.calls.faults result }
     {

@@ -32,17 +32,20 @@ pub lines_of-line : (line rest : List ℕ)
 lines_of-line [] rest one_line = refl
 lines_of-line (b ∷ line) rest one_line =
     let parts = and_parts _ (is_one_line line) one_line in
-    lines_of-other b (line ++ 10 ∷ rest) (not-true (b == 10) parts.0) ∙ ap (in_front b) (lines_of-line line rest parts.1)
+    lines_of-other b (line ++ 10 ∷ rest) (not-true (b == 10) parts.0)
+    ∙ ap (in_front b) (lines_of-line line rest parts.1)
 
 -- A last line with no LF.
-pub lines_of-last : (line : List ℕ) → is_one_line line ≡ true → 0 < length line → lines_of line ≡ line ∷ []
+pub lines_of-last : (line : List ℕ)
+    → is_one_line line ≡ true → 0 < length line → lines_of line ≡ line ∷ []
 lines_of-last [] one_line some = absurd (omega arith)
 lines_of-last (b ∷ []) one_line some =
     let parts = and_parts _ true one_line in
     lines_of-other b [] (not-true (b == 10) parts.0)
 lines_of-last (b ∷ c ∷ line) one_line some =
     let parts = and_parts _ (is_one_line (c ∷ line)) one_line in
-    lines_of-other b (c ∷ line) (not-true (b == 10) parts.0) ∙ ap (in_front b) (lines_of-last (c ∷ line) parts.1 (omega arith))
+    lines_of-other b (c ∷ line) (not-true (b == 10) parts.0)
+    ∙ ap (in_front b) (lines_of-last (c ∷ line) parts.1 (omega arith))
 
 -- The bytes begin with a line that is as long as the part, or longer.
 pub record StartsFirst (bytes part : List ℕ) : Type 0 where
@@ -75,13 +78,15 @@ starts_first b (c ∷ part) rest one_line =
     record {
       line = b ∷ more.line;
       behind = more.behind;
-      lines = lines_of-other b (c ∷ part ++ rest) (not-true (b == 10) parts.0) ∙ ap (in_front b) more.lines;
+      lines = lines_of-other b (c ∷ part ++ rest) (not-true (b == 10) parts.0)
+          ∙ ap (in_front b) more.lines;
       longer = omega (arith, more.longer);
     }
 
 -- What begins with a part of a line has a line of that length or more.
 pub longer : (n b : ℕ) (part : List ℕ) (before after : Option (List ℕ))
-    → is_one_line (b ∷ part) ≡ true → n ≤ length (b ∷ part) → Consumes before after (b ∷ part) → Longer n before
+    → is_one_line (b ∷ part) ≡ true → n ≤ length (b ∷ part) → Consumes before after (b ∷ part)
+    → Longer n before
 longer n b part None after one_line fits taken = tt
 longer n b part (Some xs) None one_line fits taken = absurd taken
 longer n b part (Some xs) (Some ys) one_line fits taken =
@@ -98,7 +103,8 @@ begins_line (Some xs) (Some ys) line one_line taken =
 
 -- What is taken up to the end is the last line.
 pub begins_last : (before after : Option (List ℕ)) (line : List ℕ)
-    → is_one_line line ≡ true → 0 < length line → Consumes before after line → IsAtEnd after → Begins before after line
+    → is_one_line line ≡ true → 0 < length line → Consumes before after line → IsAtEnd after
+    → Begins before after line
 begins_last None after line one_line some taken end = tt
 begins_last (Some xs) None line one_line some taken end = absurd taken
 begins_last (Some xs) (Some ys) line one_line some taken end =
@@ -107,7 +113,8 @@ begins_last (Some xs) (Some ys) line one_line some taken end =
     ∙ ap (λ rest. line ∷ lines_of rest) (sym end)
 
 -- Where a byte comes, a line does.
-pub some_line : (b : ℕ) (before after : Option (List ℕ)) → Consumes before after (b ∷ []) → Longer 0 before
+pub some_line : (b : ℕ) (before after : Option (List ℕ))
+    → Consumes before after (b ∷ []) → Longer 0 before
 some_line b None after taken = tt
 some_line b (Some xs) None taken = absurd taken
 some_line b (Some xs) (Some ys) taken =
@@ -115,5 +122,6 @@ some_line b (Some xs) (Some ys) taken =
       | inl lf ↦ ([], lines_of ys, ap lines_of taken ∙ rw lf refl, omega arith)
       | inr other ↦
           let shape = in_front-shape b (lines_of ys) in
-          (b ∷ shape.0, shape.1, ap lines_of taken ∙ lines_of-other b ys other ∙ shape.2, omega arith)
+          let lines = ap lines_of taken ∙ lines_of-other b ys other ∙ shape.2 in
+          (b ∷ shape.0, shape.1, lines, omega arith)
     ]

@@ -39,7 +39,8 @@ Begins (Some bytes) None line = ⊥
 Begins (Some bytes) (Some rest) line = lines_of bytes ≡ line ∷ lines_of rest
 
 -- The next line was handed out. Its LF is taken with it, unless the input has ended behind it.
-pub record HandsOut (old new : ReaderState) (before after : Option (List ℕ)) (line : List ℕ) : Type 0 where
+pub record HandsOut (old new : ReaderState) (before after : Option (List ℕ)) (line : List ℕ)
+    : Type 0 where
   pub one_line : IsTrue (is_one_line line)
   pub begins : Begins before after line
   pub taken : Consumes before after (if new.ended then line else line ++ 10 ∷ [])
@@ -49,8 +50,9 @@ pub record HandsOut (old new : ReaderState) (before after : Option (List ℕ)) (
 -- Another line comes, which has this length or more.
 abbrev pub Longer : ℕ → Option (List ℕ) → Type 0
 Longer n None = ⊤
-Longer n (Some bytes) = (line : List ℕ) × (behind : List (List ℕ)) × (lines_of bytes ≡ line ∷ behind) × (n ≤ length line)
+Longer n (Some bytes) =
+    (line : List ℕ) × (behind : List (List ℕ)) × (lines_of bytes ≡ line ∷ behind) × (n ≤ length line)
 
--- The bytes that were taken, those among them that were held before, have no LF.
+-- The bytes that were taken have no LF. What stays is the rest of the file.
 abbrev pub BreaksOff : Option (List ℕ) → Option (List ℕ) → Type 0
 BreaksOff before rest = (part : List ℕ) × IsTrue (is_one_line part) × Consumes before rest part

@@ -22,16 +22,22 @@ pub record IsLineOf (buf : List ℕ) (n : ℕ) : Type 0 where
 
 -- The line at the front was taken, or the input ends.
 abbrev pub TakesLine : Option (List ℕ) → Option (List ℕ) → List ℕ → Result Taken ReadEnd → Type 0
-TakesLine before after buf (Ok (Whole n)) = IsLineOf buf n × Consumes before after (take n buf ++ 10 ∷ [])
-TakesLine before after buf (Ok (Last n)) = IsLineOf buf n × (0 < n) × Consumes before after (take n buf) × IsAtEnd after
+TakesLine before after buf (Ok (Whole n)) =
+    IsLineOf buf n × Consumes before after (take n buf ++ 10 ∷ [])
+TakesLine before after buf (Ok (Last n)) =
+    IsLineOf buf n × (0 < n) × Consumes before after (take n buf) × IsAtEnd after
 TakesLine before after buf (Ok Nothing) = Consumes before after [] × IsAtEnd after
 TakesLine before after buf (Err TooMany) = ⊥
-TakesLine before after buf (Err TooLong) = (part : List ℕ) × IsTrue (is_one_line part) × (length part ≡ 201) × Consumes before after part
+TakesLine before after buf (Err TooLong) =
+    (part : List ℕ) × IsTrue (is_one_line part) × (length part ≡ 201) × Consumes before after part
 TakesLine before after buf (Err ReadFault) = BreaksOff before after
 
 -- Where no byte was held, some were read, or the input ends. What is ahead stays.
-abbrev pub Refills : List ℕ → List ℕ → Option (List ℕ) → Option (List ℕ) → Result (Unit {0}) ReadEnd → Type 0
-Refills old new before after (Ok done) = Consumes (prepend_known old before) (prepend_known new after) [] × (new ≡ [] → IsAtEnd after)
+abbrev pub Refills : List ℕ → List ℕ → Option (List ℕ) → Option (List ℕ)
+    → Result (Unit {0}) ReadEnd → Type 0
+Refills old new before after (Ok done) =
+    Consumes (prepend_known old before) (prepend_known new after) [] × (new ≡ [] → IsAtEnd after)
 Refills old new before after (Err TooMany) = ⊥
 Refills old new before after (Err TooLong) = ⊥
-Refills old new before after (Err ReadFault) = Keeps (prepend_known old before) (prepend_known new after) × (new ≡ [])
+Refills old new before after (Err ReadFault) =
+    Keeps (prepend_known old before) (prepend_known new after) × (new ≡ [])

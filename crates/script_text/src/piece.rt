@@ -46,7 +46,9 @@ impl Piece {
 
     /// The next byte, or `None` at the input's end. After a fault no byte is left of the piece.
     pub(crate) fn next_byte<F: Files>(&mut self, files: &mut F) -> Result<Option<u8>, ReadEnd>
-        ensures byte { TakesByte (prepend_known self.old (F.rest files.old)) (prepend_known self.new (F.rest files.new)) result }
+        ensures byte { let before = prepend_known self.old (F.rest files.old) in
+            let after = prepend_known self.new (F.rest files.new) in
+            TakesByte before after result }
         ensures fault { IsErrOf result ReadEnd.ReadFault → self.new ≡ [] }
         ensures cause { HasReadCause (F.faults files.old) (F.faults files.new) result }
         ensures bytes { F.bytes files.new ≡ F.bytes files.old }
@@ -81,7 +83,9 @@ impl Piece {
 
     /// Takes the byte at the front.
     fn pop(&mut self) -> Option<u8>
-        ensures { MatchOption result ((self.old ≡ []) × (self.new ≡ [])) (λ byte. self.old ≡ byte ∷ self.new) }
+        ensures { MatchOption result
+            ((self.old ≡ []) × (self.new ≡ []))
+            (λ byte. self.old ≡ byte ∷ self.new) }
     {
         if self.start == self.end {
             return None;

@@ -1,7 +1,7 @@
 //! A reader of lines over files.
 //!
-//! It is a piece of the file, of which the bytes that are not handed out yet are left, beside the number
-//! of lines handed out and whether the end was met. The end is kept, so that no read follows it.
+//! It is a piece of the file, of which the bytes that are not handed out yet are left, beside the
+//! number of lines handed out and whether the end was met. The end is kept, so that no read follows.
 ghost use Rattle.std.specs.Prelude.{◌≡◌, [], false, IfOk, IsErrOf};
 ghost use Rattle.std.specs.Io.KnownBytes.{prepend_known};
 ghost use Rattle.script_text.specs.Reader.{IsInStep};
@@ -140,7 +140,9 @@ fn take_line<F: Files>(
     files: &mut F,
     line: &mut [u8; 200],
 ) -> Result<Taken, ReadEnd>
-    ensures taken { TakesLine (prepend_known piece.old (F.rest files.old)) (prepend_known piece.new (F.rest files.new)) line.new result }
+    ensures taken { let before = prepend_known piece.old (F.rest files.old) in
+        let after = prepend_known piece.new (F.rest files.new) in
+        TakesLine before after line.new result }
     ensures fault { IsErrOf result ReadEnd.ReadFault → piece.new ≡ [] }
     ensures cause { HasReadCause (F.faults files.old) (F.faults files.new) result }
     ensures bytes { F.bytes files.new ≡ F.bytes files.old }

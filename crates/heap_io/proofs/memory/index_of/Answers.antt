@@ -11,6 +11,9 @@ returns-then-eq-clause-found c =
     let name = c.args.name.now in
     let index = c.loop-index.index in
     let file = c.index-files-index.result in
-    let found : slice_get files index ≡ Some file = slice_get_read files _ index file refl (omega arith) c.index-files-index.is in
+    let found : slice_get files index ≡ Some file =
+    slice_get_read files _ index file refl (omega arith) c.index-files-index.is in
     let named : bytes_eq file.name name ≡ true = search rules in
-    ap (λ entry. Some (bytes_or_none entry)) found ∙ sym (bytes_of-here files index name file found named) ∙ c.loop-index.invariant
+    ap (λ entry. Some (bytes_or_none entry)) found
+    ∙ sym (bytes_of-here files index name file found named)
+    ∙ c.loop-index.invariant

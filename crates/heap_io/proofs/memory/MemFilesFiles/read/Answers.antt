@@ -14,7 +14,9 @@ returns-clause-taken c =
     let count = c.copy_front-count.result in
     let left : rest ≡ drop at bytes = ap (λ state. state.rest) (sym c.self.view_is) in
     let source : c.bytes_left-left.result.now ≡ rest =
-    c.bytes_left-left.ensures.left ∙ ap (λ files. left_of files current at) c.deref.ensures.value ∙ sym left in
+    c.bytes_left-left.ensures.left
+    ∙ ap (λ files. left_of files current at) c.deref.ensures.value
+    ∙ sym left in
     reads_front rest bytes (take count buf) buf at count left
     (omega (arith, ap length source))
     (c.copy_front-count.ensures.bytes ∙ ap (take count) source)
