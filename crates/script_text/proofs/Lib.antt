@@ -8,3 +8,4 @@ pub mod Joined
 pub mod Numerals
 pub mod ReadWords
 pub mod Separated
+pub mod Spaced

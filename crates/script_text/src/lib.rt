@@ -2,11 +2,12 @@
 #![tactic(auto)]
 
 mod numbers;
-mod object_forms;
+mod objects;
 mod parse;
+mod print;
 mod ranges;
-mod slot_forms;
-mod structure_forms;
+mod slots;
+mod structures;
 mod words;
 
 pub use parse::parse_line;

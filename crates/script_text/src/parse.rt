@@ -5,7 +5,7 @@ ghost use Rattle.store_model.specs.Numbers.{words_of};
 ghost use Rattle.store_model.specs.Grammar.{item_of, form_of, setting_of, setting_form, type_form, fixed_shape, destructor_word, end_of_type, is_above_shape};
 ghost use Rattle.script_text.specs.Words.{words_in, type_of};
 
-use crate::object_forms::parse_command;
+use crate::objects::parse_command;
 use crate::ranges::type_number;
 use crate::words::{Words, one_number, split_word, take_end, take_number};
 use store_model::{BadLine, Item, Shape, TypeInfo};
