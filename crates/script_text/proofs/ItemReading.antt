@@ -112,3 +112,7 @@ line-read (CommandItem command) line is = ap item_of is.1 ∙ item_text-read (Co
 -- a line says an item just where it is that item's line
 pub says_its_item : (line : List ℕ) (item : Item) → (item_of line ≡ Ok item) ↔ IsLineOf item line
 says_its_item line item = (item_of-is line item, line-read item line)
+
+-- the same of an answer
+pub answers_its_item : (line : List ℕ) (result : Result Item BadLine) → result ≡ item_of line → (item : Item) → (result ≡ Ok item) ↔ IsLineOf item line
+answers_its_item line result is item = rw is (says_its_item line item)

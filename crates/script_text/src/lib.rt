@@ -1,6 +1,7 @@
 //! The lines of a script as items, and items as lines.
 #![tactic(auto)]
 
+mod commands;
 mod numbers;
 mod objects;
 mod parse;
@@ -10,5 +11,6 @@ mod slots;
 mod structures;
 mod words;
 
+pub use commands::print_command;
 pub use parse::parse_line;
 pub use store_model::{BadLine, Command, Item};

@@ -4,6 +4,7 @@ ghost use Rattle.std.specs.Prelude.{◌≡◌, ◌++◌, ◌∷◌, [], OnOk, On
 ghost use Rattle.store_model.specs.declared.command.Command.TheVariants.{NewWeak, Put, Get, Link, Load};
 ghost use Rattle.store_model.specs.CommandGrammar.{command_form, new_form, copy_form, with_two, with_three};
 ghost use Rattle.store_model.specs.ItemText.{joined, command_words};
+ghost use Rattle.script_text.specs.ItemLine.{StoresWord};
 ghost use Rattle.script_text.specs.Printing.{Extends};
 ghost use Rattle.script_text.specs.Words.{words_in};
 
@@ -143,6 +144,7 @@ fn parse_copy(words: Words<'_>) -> Result<Command, BadLine>
 #[tactic(auto, unfolding(store_model::specs::ItemText::command_words))]
 pub fn print_object_command(command: &Command, out: &mut Vec<u8>) -> Result<(), AllocError>
     ensures ok { OnOk result (out.new.items ≡ out.old.items ++ (joined (command_words command.now) ++ 10 ∷ [])) }
+    ensures stored { StoresWord command.now }
     ensures err { OnErr result (Extends out.old.items out.new.items) }
 {
     match *command {

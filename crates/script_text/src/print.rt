@@ -1,7 +1,7 @@
 //! Lines that are written as words with one space between two. Where memory is wanting, what was in the buffer stays at
 //! its front, and behind it may stand a part of the line.
 
-ghost use Rattle.std.specs.Prelude.{◌≡◌, ◌++◌, ◌∷◌, [], OnOk, OnErr};
+ghost use Rattle.std.specs.Prelude.{◌≡◌, ◌<◌, ◌^◌, ◌++◌, ◌∷◌, [], All, OnOk, OnErr};
 ghost use Rattle.store_model.specs.ItemText.{joined, decimals};
 ghost use Rattle.script_text.specs.Printing.{spaced, Extends};
 
@@ -11,6 +11,7 @@ use std::alloc::AllocError;
 /// Appends a line: its first word, then numbers with a space before each, and LF.
 pub fn print_line(first: &[u8], numbers: &[u64], out: &mut Vec<u8>) -> Result<(), AllocError>
     ensures ok { OnOk result (out.new.items ≡ out.old.items ++ (joined (first.now ∷ decimals numbers.now) ++ 10 ∷ [])) }
+    ensures sized { All (λ n. n < 2 ^ 64) numbers.now }
     ensures err { OnErr result (Extends out.old.items out.new.items) }
 {
     out.extend_from_slice(first)?;
