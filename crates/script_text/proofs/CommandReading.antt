@@ -47,22 +47,22 @@ one : (word : List ℕ) (f : ℕ → Command) (a : ℕ) → is_keyword word ≡ 
     → is_above (f a) ≡ false → a < 2 ^ 64 → ReadsCommand (word ∷ decimals (a ∷ [])) (f a)
 one word f a key form below small =
     read_by word (decimals (a ∷ [])) (with_one f (decimals (a ∷ []))) (f a) key (rw (is_word-decimal a small) refl) (form (decimals (a ∷ [])))
-      (rw (one_number-decimals a small) (in_range-below (f a) below))
+    (rw (one_number-decimals a small) (in_range-below (f a) below))
 
 two : (word : List ℕ) (f : ℕ → ℕ → Command) (a b : ℕ) → is_keyword word ≡ true
     → ((words : List (List ℕ)) → form_of (word ∷ words) ≡ (with_two f words >>= as_item))
     → is_above (f a b) ≡ false → a < 2 ^ 64 → b < 2 ^ 64 → ReadsCommand (word ∷ decimals (a ∷ b ∷ [])) (f a b)
 two word f a b key form below first next =
     read_by word (decimals (a ∷ b ∷ [])) (with_two f (decimals (a ∷ b ∷ []))) (f a b) key (rw (is_word-decimal a first, is_word-decimal b next) refl)
-      (form (decimals (a ∷ b ∷ []))) (rw (two_numbers-decimals a b first next) (in_range-below (f a b) below))
+    (form (decimals (a ∷ b ∷ []))) (rw (two_numbers-decimals a b first next) (in_range-below (f a b) below))
 
 three : (word : List ℕ) (f : ℕ → ℕ → ℕ → Command) (a b c : ℕ) → is_keyword word ≡ true
     → ((words : List (List ℕ)) → form_of (word ∷ words) ≡ (with_three f words >>= as_item))
     → is_above (f a b c) ≡ false → a < 2 ^ 64 → b < 2 ^ 64 → c < 2 ^ 64 → ReadsCommand (word ∷ decimals (a ∷ b ∷ c ∷ [])) (f a b c)
 three word f a b c key form below first next last =
     read_by word (decimals (a ∷ b ∷ c ∷ [])) (with_three f (decimals (a ∷ b ∷ c ∷ []))) (f a b c) key
-      (rw (is_word-decimal a first, is_word-decimal b next, is_word-decimal c last) refl)
-      (form (decimals (a ∷ b ∷ c ∷ []))) (rw (three_numbers-decimals a b c first next last) (in_range-below (f a b c) below))
+    (rw (is_word-decimal a first, is_word-decimal b next, is_word-decimal c last) refl)
+    (form (decimals (a ∷ b ∷ c ∷ []))) (rw (three_numbers-decimals a b c first next last) (in_range-below (f a b c) below))
 
 -- a command with the numbers of two slots, queues or structures
 two_ids : (word : List ℕ) (f : ℕ → ℕ → Command) (a b : ℕ) → is_keyword word ≡ true
@@ -79,7 +79,7 @@ unfolding form_of command_form new_form
 new_fixed root type_id below first next =
     let words = decimals (root ∷ type_id ∷ []) in
     read_by (codes "new") words (new_form words) (NewFixed root type_id) refl (rw (is_word-decimal root first, is_word-decimal type_id next) refl) refl
-      (rw (number_word-decimal root (decimals (type_id ∷ [])) first, number_word-decimal type_id [] next) (in_range-below (NewFixed root type_id) below))
+    (rw (number_word-decimal root (decimals (type_id ∷ [])) first, number_word-decimal type_id [] next) (in_range-below (NewFixed root type_id) below))
 
 new_array : (root type_id len : ℕ) → is_above (NewArray root type_id len) ≡ false → root < 2 ^ 64 → type_id < 2 ^ 64 → len < 2 ^ 64
     → ReadsCommand (codes "new" ∷ decimals (root ∷ type_id ∷ len ∷ [])) (NewArray root type_id len)
@@ -87,12 +87,12 @@ unfolding form_of command_form new_form
 new_array root type_id len below first next last =
     let words = decimals (root ∷ type_id ∷ len ∷ []) in
     read_by (codes "new") words (new_form words) (NewArray root type_id len) refl
-      (rw (is_word-decimal root first, is_word-decimal type_id next, is_word-decimal len last) refl) refl
-      (rw (
-        number_word-decimal root (decimals (type_id ∷ len ∷ [])) first,
-        number_word-decimal type_id (decimals (len ∷ [])) next,
-        one_number-decimals len last,
-      ) (in_range-below (NewArray root type_id len) below))
+    (rw (is_word-decimal root first, is_word-decimal type_id next, is_word-decimal len last) refl) refl
+    (rw (
+      number_word-decimal root (decimals (type_id ∷ len ∷ [])) first,
+      number_word-decimal type_id (decimals (len ∷ [])) next,
+      one_number-decimals len last,
+    ) (in_range-below (NewArray root type_id len) below))
 
 -- `copyrefs R I S J M`
 copy_refs : (a b c d e : ℕ) → is_above (CopyRefs a b c d e) ≡ false → a < 2 ^ 64 → b < 2 ^ 64 → c < 2 ^ 64 → d < 2 ^ 64 → e < 2 ^ 64
@@ -101,8 +101,8 @@ unfolding form_of command_form copy_form
 copy_refs a b c d e below first second third fourth fifth =
     let words = decimals (a ∷ b ∷ c ∷ d ∷ e ∷ []) in
     read_by (codes "copyrefs") words (copy_form words) (CopyRefs a b c d e) refl
-      (rw (is_word-decimal a first, is_word-decimal b second, is_word-decimal c third, is_word-decimal d fourth, is_word-decimal e fifth) refl) refl
-      (rw (five_numbers-decimals a b c d e first second third fourth fifth) (in_range-below (CopyRefs a b c d e) below))
+    (rw (is_word-decimal a first, is_word-decimal b second, is_word-decimal c third, is_word-decimal d fourth, is_word-decimal e fifth) refl) refl
+    (rw (five_numbers-decimals a b c d e first second third fourth fifth) (in_range-below (CopyRefs a b c d e) below))
 
 kind_word-light : (light : Bool) (words : List (List ℕ)) → kind_word (light_word light ∷ words) ≡ Ok (light, words)
 kind_word-light true words = refl
@@ -129,13 +129,13 @@ unfolding link_form
 make_link p number root light own below first next last =
     let words = decimal number ∷ decimal root ∷ light_word light ∷ decimal own ∷ [] in
     read_by (link_word p) words (link_form p words) (MakeLink p number root light own) (is_keyword-link p)
-      (rw (is_word-decimal number first, is_word-decimal root next, is_word-light light, is_word-decimal own last) refl) (form_of-link p words)
-      (rw (
-        number_word-decimal number (decimal root ∷ light_word light ∷ decimal own ∷ []) first,
-        number_word-decimal root (light_word light ∷ decimal own ∷ []) next,
-        kind_word-light light (decimal own ∷ []),
-        one_number-decimals own last,
-      ) (in_range-below (MakeLink p number root light own) below))
+    (rw (is_word-decimal number first, is_word-decimal root next, is_word-light light, is_word-decimal own last) refl) (form_of-link p words)
+    (rw (
+      number_word-decimal number (decimal root ∷ light_word light ∷ decimal own ∷ []) first,
+      number_word-decimal root (light_word light ∷ decimal own ∷ []) next,
+      kind_word-light light (decimal own ∷ []),
+      one_number-decimals own last,
+    ) (in_range-below (MakeLink p number root light own) below))
 
 -- each command is read from its line
 reads : (c : Command) → is_above c ≡ false → StoresWord c → ReadsCommand (command_words c) c

@@ -32,29 +32,29 @@ no_numbers-is : (word : List ℕ) (words : List (List ℕ)) (d c : Command) → 
     → no_numbers d words ≡ Ok c → IsSpelled (word ∷ words) c
 no_numbers-is word words d c spelled stored h =
     both_gave _ (no_word words) (λ end. in_range d) c h (λ end none rest.
-      in_range-is (word ∷ words) d c (ap (λ ws. word ∷ ws) (no_word-is words end none) ∙ spelled) stored rest)
+    in_range-is (word ∷ words) d c (ap (λ ws. word ∷ ws) (no_word-is words end none) ∙ spelled) stored rest)
 
 with_one-is : (word : List ℕ) (words : List (List ℕ)) (f : ℕ → Command) (c : Command)
     → ((a : ℕ) → word ∷ decimals (a ∷ []) ≡ command_words (f a)) → ((a : ℕ) → StoresWord (f a))
     → with_one f words ≡ Ok c → IsSpelled (word ∷ words) c
 with_one-is word words f c spelled stored h =
     both_gave _ (one_number words) (λ a. in_range (f a)) c h (λ a number rest.
-      in_range-is (word ∷ words) (f a) c (ap (λ ws. word ∷ ws) (one_number-is words a number).0 ∙ spelled a) (stored a) rest)
+    in_range-is (word ∷ words) (f a) c (ap (λ ws. word ∷ ws) (one_number-is words a number).0 ∙ spelled a) (stored a) rest)
 
 with_two-is : (word : List ℕ) (words : List (List ℕ)) (f : ℕ → ℕ → Command) (c : Command)
     → ((a b : ℕ) → word ∷ decimals (a ∷ b ∷ []) ≡ command_words (f a b)) → ((a b : ℕ) → StoresWord (f a b))
     → with_two f words ≡ Ok c → IsSpelled (word ∷ words) c
 with_two-is word words f c spelled stored h =
     both_gave _ (two_numbers words) (λ n. in_range (f n.0 n.1)) c h (λ n numbers rest.
-      in_range-is (word ∷ words) (f n.0 n.1) c (ap (λ ws. word ∷ ws) (two_numbers-is words n numbers).0 ∙ spelled n.0 n.1) (stored n.0 n.1) rest)
+    in_range-is (word ∷ words) (f n.0 n.1) c (ap (λ ws. word ∷ ws) (two_numbers-is words n numbers).0 ∙ spelled n.0 n.1) (stored n.0 n.1) rest)
 
 with_three-is : (word : List ℕ) (words : List (List ℕ)) (f : ℕ → ℕ → ℕ → Command) (c : Command)
     → ((a b d : ℕ) → word ∷ decimals (a ∷ b ∷ d ∷ []) ≡ command_words (f a b d)) → ((a b d : ℕ) → d < 2 ^ 64 → StoresWord (f a b d))
     → with_three f words ≡ Ok c → IsSpelled (word ∷ words) c
 with_three-is word words f c spelled stored h =
     both_gave _ (three_numbers words) (λ n. in_range (f n.0 n.1 n.2)) c h (λ n numbers rest.
-      let read = three_numbers-is words n numbers in
-      in_range-is (word ∷ words) (f n.0 n.1 n.2) c (ap (λ ws. word ∷ ws) read.0 ∙ spelled n.0 n.1 n.2) (stored n.0 n.1 n.2 read.3) rest)
+    let read = three_numbers-is words n numbers in
+    in_range-is (word ∷ words) (f n.0 n.1 n.2) c (ap (λ ws. word ∷ ws) read.0 ∙ spelled n.0 n.1 n.2) (stored n.0 n.1 n.2 read.3) rest)
 
 -- the word is this keyword, or the rest of the grammar read the line
 keyword_or_rest : (word keyword : List ℕ) (taken passed : Result Command BadLine) (words : List (List ℕ)) (c : Command)
@@ -68,24 +68,24 @@ unfolding command_words
 new_tail-is root type_id words [] c spelled h = in_range-is (codes "new" ∷ words) (NewFixed root type_id) c (ap (λ ws. codes "new" ∷ ws) spelled) tt h
 new_tail-is root type_id words (word ∷ behind) c spelled h =
     both_gave _ (one_number (word ∷ behind)) (λ len. in_range (NewArray root type_id len)) c h (λ len number rest.
-      let read = one_number-is (word ∷ behind) len number in
-      in_range-is (codes "new" ∷ words) (NewArray root type_id len) c
-        (ap (λ ws. codes "new" ∷ ws) spelled ∙ ap (λ ws. codes "new" ∷ decimal root ∷ decimal type_id ∷ ws) read.0) tt rest)
+    let read = one_number-is (word ∷ behind) len number in
+    in_range-is (codes "new" ∷ words) (NewArray root type_id len) c
+    (ap (λ ws. codes "new" ∷ ws) spelled ∙ ap (λ ws. codes "new" ∷ decimal root ∷ decimal type_id ∷ ws) read.0) tt rest)
 
 new_form-is : (words : List (List ℕ)) (c : Command) → new_form words ≡ Ok c → IsSpelled (codes "new" ∷ words) c
 unfolding new_form
 new_form-is words c h =
     both_gave _ (number_word words) (λ root. number_word root.1 >>= (λ type_id. new_tail root.0 type_id.0 type_id.1)) c h (λ root first more.
     both_gave _ (number_word root.1) (λ type_id. new_tail root.0 type_id.0 type_id.1) c more (λ type_id second rest.
-      let one = number_word-is words root first in
-      let two = number_word-is root.1 type_id second in
-      new_tail-is root.0 type_id.0 words type_id.1 c (one.0 ∙ ap (λ ws. decimal root.0 ∷ ws) two.0) rest))
+    let one = number_word-is words root first in
+    let two = number_word-is root.1 type_id second in
+    new_tail-is root.0 type_id.0 words type_id.1 c (one.0 ∙ ap (λ ws. decimal root.0 ∷ ws) two.0) rest))
 
 copy_form-is : (words : List (List ℕ)) (c : Command) → copy_form words ≡ Ok c → IsSpelled (codes "copyrefs" ∷ words) c
 unfolding copy_form command_words
 copy_form-is words c h =
     both_gave _ (five_numbers words) (λ n. in_range (CopyRefs n.0 n.1 n.2 n.3 n.4)) c h (λ n numbers rest.
-      in_range-is (codes "copyrefs" ∷ words) (CopyRefs n.0 n.1 n.2 n.3 n.4) c (ap (λ ws. codes "copyrefs" ∷ ws) (five_numbers-is words n numbers)) tt rest)
+    in_range-is (codes "copyrefs" ∷ words) (CopyRefs n.0 n.1 n.2 n.3 n.4) c (ap (λ ws. codes "copyrefs" ∷ ws) (five_numbers-is words n numbers)) tt rest)
 
 kind_word-is : (words : List (List ℕ)) (read : Bool × List (List ℕ)) → kind_word words ≡ Ok read → words ≡ light_word read.0 ∷ read.1
 kind_word-is [] read h = cc
@@ -101,11 +101,11 @@ link_form-is p words c h =
     both_gave _ (number_word number.1) _ c more (λ root second more.
     both_gave _ (kind_word root.1) _ c more (λ light third more.
     both_gave _ (one_number light.1) _ c more (λ own last rest.
-      let one = number_word-is words number first in
-      let two = number_word-is number.1 root second in
-      let three = kind_word-is root.1 light third in
-      let four = one_number-is light.1 own last in
-      in_range-is (link_word p ∷ words) (MakeLink p number.0 root.0 light.0 own) c (cc) tt rest))))
+    let one = number_word-is words number first in
+    let two = number_word-is number.1 root second in
+    let three = kind_word-is root.1 light third in
+    let four = one_number-is light.1 own last in
+    in_range-is (link_word p ∷ words) (MakeLink p number.0 root.0 light.0 own) c (cc) tt rest))))
 
 structure_form-is : (word : List ℕ) (words : List (List ℕ)) (c : Command) → structure_form word words ≡ Ok c → IsSpelled (word ∷ words) c
 unfolding structure_form command_words

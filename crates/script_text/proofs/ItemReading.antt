@@ -35,7 +35,7 @@ setting_of-name : (name : ℕ) → name ≤ 12 → setting_of (slice_index_or se
 unfolding setting_of found_at
 setting_of-name name within =
     found_at-is name (setting_of (slice_index_or setting_names name []))
-      (agree_below_at (λ k. found_at k (setting_of (slice_index_or setting_names k []))) (λ k. true) 13 name refl (omega arith))
+    (agree_below_at (λ k. found_at k (setting_of (slice_index_or setting_names k []))) (λ k. true) 13 name refl (omega arith))
 
 is_word-name : (name : ℕ) → name ≤ 12 → is_word (slice_index_or setting_names name []) ≡ true
 is_word-name name within = agree_below_at (λ k. is_word (slice_index_or setting_names k [])) (λ k. true) 13 name refl (omega arith)
@@ -84,12 +84,12 @@ type-read number info is =
     let behind = shape_text info.shape ++ destructor_text info.destructor in
     item_of-joined (codes "type") (decimal number ∷ behind) refl (rw (is_word-decimal number small) (are_words-type info.shape info.destructor is.shape_below))
     ∙ rw (
-        number_word-decimal number behind small,
-        shape_words-text info.shape (destructor_text info.destructor) is.shape_below,
-        end_of_type-text info.shape info.destructor is.weak,
-        is.id_below,
-        is.shape_below,
-      ) refl
+      number_word-decimal number behind small,
+      shape_words-text info.shape (destructor_text info.destructor) is.shape_below,
+      end_of_type-text info.shape info.destructor is.weak,
+      is.id_below,
+      is.shape_below,
+    ) refl
 
 -- the line of an item says that item
 pub item_text-read : (item : Item) → HasLine item → item_of (item_text item) ≡ Ok item
@@ -112,3 +112,7 @@ line-read (CommandItem command) line is = ap item_of is.1 ∙ item_text-read (Co
 -- a line says an item just where it is that item's line
 pub says_its_item : (line : List ℕ) (item : Item) → (item_of line ≡ Ok item) ↔ IsLineOf item line
 says_its_item line item = (item_of-is line item, line-read item line)
+
+-- the same of an answer
+pub answers_its_item : (line : List ℕ) (result : Result Item BadLine) → result ≡ item_of line → (item : Item) → (result ≡ Ok item) ↔ IsLineOf item line
+answers_its_item line result is item = rw is (says_its_item line item)

@@ -55,13 +55,13 @@ setting_with-is : (o : Option ℕ) (word : List ℕ) (words : List (List ℕ)) (
 setting_with-is None word words item found h = cc
 setting_with-is (Some name) word words item found h =
     both_gave _ (one_number words) (λ value. Ok (Setting name value)) item h (λ value number same.
-      let is = found name refl in
-      let read = one_number-is words value number in
-      let made : Setting name value ≡ item = cc in
-      subst (IsItemSpelled (codes "set" ∷ word ∷ words)) made (record {
-        spelled = ap (λ w. codes "set" ∷ w ∷ words) (sym is.there) ∙ ap (λ ws. codes "set" ∷ slice_index_or setting_names name [] ∷ ws) read.0;
-        has_line = (omega (arith, is.within), read.1);
-      }))
+    let is = found name refl in
+    let read = one_number-is words value number in
+    let made : Setting name value ≡ item = cc in
+    subst (IsItemSpelled (codes "set" ∷ word ∷ words)) made (record {
+      spelled = ap (λ w. codes "set" ∷ w ∷ words) (sym is.there) ∙ ap (λ ws. codes "set" ∷ slice_index_or setting_names name [] ∷ ws) read.0;
+      has_line = (omega (arith, is.within), read.1);
+    }))
 
 setting_form-is : (words : List (List ℕ)) (item : Item) → setting_form words ≡ Ok item → IsItemSpelled (codes "set" ∷ words) item
 unfolding setting_form setting_of
@@ -72,9 +72,9 @@ destructor_word-is : (words : List (List ℕ)) (d : Bool) → destructor_word wo
 destructor_word-is [] d h = let given : false ≡ d = cc in ap destructor_text given
 destructor_word-is (word ∷ words) d h =
     by_keyword (λ w. w ∷ words ≡ destructor_text d) word (codes "destructor") _ _ d h (λ h.
-      both_gave _ (no_word words) _ d h (λ end none same.
-        let given : true ≡ d = cc in
-        ap (λ ws. codes "destructor" ∷ ws) (no_word-is words end none) ∙ ap destructor_text given)) (λ h. cc)
+    both_gave _ (no_word words) _ d h (λ end none same.
+    let given : true ≡ d = cc in
+    ap (λ ws. codes "destructor" ∷ ws) (no_word-is words end none) ∙ ap destructor_text given)) (λ h. cc)
 
 end_of_type-is : (shape : Shape) (words : List (List ℕ)) (d : Bool) → end_of_type shape words ≡ Ok d → (words ≡ destructor_text d) × (shape ≡ Weak → d ≡ false)
 end_of_type-is (Fixed ints refs) words d h = (destructor_word-is words d h, λ e. cc)
@@ -82,17 +82,17 @@ end_of_type-is IntArray words d h = (destructor_word-is words d h, λ e. cc)
 end_of_type-is RefArray words d h = (destructor_word-is words d h, λ e. cc)
 end_of_type-is Weak words d h =
     both_gave _ (no_word words) _ d h (λ end none same.
-      let given : false ≡ d = cc in
-      (no_word-is words end none ∙ ap destructor_text given, λ e. sym given))
+    let given : false ≡ d = cc in
+    (no_word-is words end none ∙ ap destructor_text given, λ e. sym given))
 
 fixed_shape-is : (words : List (List ℕ)) (read : Shape × List (List ℕ)) → fixed_shape words ≡ Ok read → codes "fixed" ∷ words ≡ shape_text read.0 ++ read.1
 fixed_shape-is words read h =
     both_gave _ (number_word words) _ read h (λ ints first more.
     both_gave _ (number_word ints.1) _ read more (λ refs second same.
-      let one = number_word-is words ints first in
-      let two = number_word-is ints.1 refs second in
-      let made : (Fixed ints.0 refs.0, refs.1) ≡ read = cc in
-      ap (λ ws. codes "fixed" ∷ ws) (one.0 ∙ ap (λ ws. decimal ints.0 ∷ ws) two.0) ∙ ap (λ x. shape_text x.0 ++ x.1) made))
+    let one = number_word-is words ints first in
+    let two = number_word-is ints.1 refs second in
+    let made : (Fixed ints.0 refs.0, refs.1) ≡ read = cc in
+    ap (λ ws. codes "fixed" ∷ ws) (one.0 ∙ ap (λ ws. decimal ints.0 ∷ ws) two.0) ∙ ap (λ x. shape_text x.0 ++ x.1) made))
 
 shape_words-is : (words : List (List ℕ)) (read : Shape × List (List ℕ)) → shape_words words ≡ Ok read → words ≡ shape_text read.0 ++ read.1
 unfolding shape_words
@@ -110,19 +110,19 @@ type_form-is words item h =
     both_gave _ (number_word words) _ item h (λ id first more.
     both_gave _ (shape_words id.1) _ item more (λ shape second more.
     both_gave _ (end_of_type shape.0 shape.1) _ item more (λ destructor last more.
-      let info : TypeInfo = record { shape = shape.0; destructor = destructor } in
-      let one = number_word-is words id first in
-      let two = shape_words-is id.1 shape second in
-      let three = end_of_type-is shape.0 shape.1 destructor last in
-      let made = ok_unless (is_above_ids id.0 || is_above_shape shape.0) (TypeDef id.0 info) item Range more in
-      let below = or_parts (is_above_ids id.0) (is_above_shape shape.0) made.0 in
-      subst (IsItemSpelled (codes "type" ∷ words)) made.1 (record {
-        spelled =
+    let info : TypeInfo = record { shape = shape.0; destructor = destructor } in
+    let one = number_word-is words id first in
+    let two = shape_words-is id.1 shape second in
+    let three = end_of_type-is shape.0 shape.1 destructor last in
+    let made = ok_unless (is_above_ids id.0 || is_above_shape shape.0) (TypeDef id.0 info) item Range more in
+    let below = or_parts (is_above_ids id.0) (is_above_shape shape.0) made.0 in
+    subst (IsItemSpelled (codes "type" ∷ words)) made.1 (record {
+      spelled =
           ap (λ ws. codes "type" ∷ ws) one.0
           ∙ ap (λ ws. codes "type" ∷ decimal id.0 ∷ ws) two
           ∙ ap (λ ws. codes "type" ∷ decimal id.0 ∷ (shape_text shape.0 ++ ws)) three.0;
-        has_line = record { id_below = below.0; shape_below = below.1; weak = three.1 };
-      }))))
+      has_line = record { id_below = below.0; shape_below = below.1; weak = three.1 };
+    }))))
 
 form_of-is : (words : List (List ℕ)) (item : Item) → form_of words ≡ Ok item → IsItemSpelled words item
 unfolding form_of
@@ -131,10 +131,10 @@ form_of-is (word ∷ words) item h =
     let P : List ℕ → Type 0 = λ w. IsItemSpelled (w ∷ words) item in
     by_keyword P word (codes "set") _ _ item h (setting_form-is words item) (λ h.
     by_keyword P word (codes "type") _ _ item h (type_form-is words item) (λ h.
-      both_gave _ (command_form word words) as_item item h (λ command read same.
-        let is = command_form-is word words command read in
-        let made : CommandItem command ≡ item = cc in
-        subst (IsItemSpelled (word ∷ words)) made (record { spelled = is.spelled; has_line = is.in_range }))))
+    both_gave _ (command_form word words) as_item item h (λ command read same.
+    let is = command_form-is word words command read in
+    let made : CommandItem command ≡ item = cc in
+    subst (IsItemSpelled (word ∷ words)) made (record { spelled = is.spelled; has_line = is.in_range }))))
 
 -- a line that is not blank, by its words
 line_of : (item : Item) (line : List ℕ) → HasLine item → line ≡ item_text item → IsLineOf item line

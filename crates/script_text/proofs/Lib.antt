@@ -10,3 +10,4 @@ pub mod Numerals
 pub mod ReadWords
 pub mod ReaderAnswers
 pub mod Separated
+pub mod Spaced

@@ -71,35 +71,35 @@ pub one_number-is : (words : List (List ℕ)) (a : ℕ) → one_number words ≡
 one_number-is words a h =
     both_gave _ (number_word words) (λ n. no_word n.1 >>= (λ end. Ok n.0)) a h (λ n first rest.
     both_gave _ (no_word n.1) (λ end. Ok n.0) a rest (λ end none same.
-      let number = number_word-is words n first in
-      let empty = no_word-is n.1 end none in
-      let value : n.0 ≡ a = cc in
-      (cc, subst (λ m. m < 2 ^ 64) value number.1)))
+    let number = number_word-is words n first in
+    let empty = no_word-is n.1 end none in
+    let value : n.0 ≡ a = cc in
+    (cc, subst (λ m. m < 2 ^ 64) value number.1)))
 
 pub two_numbers-is : (words : List (List ℕ)) (read : ℕ × ℕ) → two_numbers words ≡ Ok read
     → (words ≡ decimals (read.0 ∷ read.1 ∷ [])) × (read.0 < 2 ^ 64) × (read.1 < 2 ^ 64)
 two_numbers-is words read h =
     both_gave _ (number_word words) (λ a. one_number a.1 >>= (λ b. Ok (a.0, b))) read h (λ a first rest.
     both_gave _ (one_number a.1) (λ b. Ok (a.0, b)) read rest (λ b next same.
-      let number = number_word-is words a first in
-      let numbers = one_number-is a.1 b next in
-      let pair : (a.0, b) ≡ read = cc in
-      let value : a.0 ≡ read.0 = ap (λ x. x.0) pair in
-      let other : b ≡ read.1 = ap (λ x. x.1) pair in
-      (cc, subst (λ m. m < 2 ^ 64) value number.1, subst (λ m. m < 2 ^ 64) other numbers.1)))
+    let number = number_word-is words a first in
+    let numbers = one_number-is a.1 b next in
+    let pair : (a.0, b) ≡ read = cc in
+    let value : a.0 ≡ read.0 = ap (λ x. x.0) pair in
+    let other : b ≡ read.1 = ap (λ x. x.1) pair in
+    (cc, subst (λ m. m < 2 ^ 64) value number.1, subst (λ m. m < 2 ^ 64) other numbers.1)))
 
 pub three_numbers-is : (words : List (List ℕ)) (read : ℕ × ℕ × ℕ) → three_numbers words ≡ Ok read
     → (words ≡ decimals (read.0 ∷ read.1 ∷ read.2 ∷ [])) × (read.0 < 2 ^ 64) × (read.1 < 2 ^ 64) × (read.2 < 2 ^ 64)
 three_numbers-is words read h =
     both_gave _ (number_word words) (λ a. two_numbers a.1 >>= (λ b. Ok (a.0, b.0, b.1))) read h (λ a first rest.
     both_gave _ (two_numbers a.1) (λ b. Ok (a.0, b.0, b.1)) read rest (λ b next same.
-      let number = number_word-is words a first in
-      let numbers = two_numbers-is a.1 b next in
-      let triple : (a.0, b.0, b.1) ≡ read = cc in
-      let one : a.0 ≡ read.0 = ap (λ x. x.0) triple in
-      let two : b.0 ≡ read.1 = ap (λ x. x.1) triple in
-      let three : b.1 ≡ read.2 = ap (λ x. x.2) triple in
-      (cc, subst (λ m. m < 2 ^ 64) one number.1, subst (λ m. m < 2 ^ 64) two numbers.1, subst (λ m. m < 2 ^ 64) three numbers.2)))
+    let number = number_word-is words a first in
+    let numbers = two_numbers-is a.1 b next in
+    let triple : (a.0, b.0, b.1) ≡ read = cc in
+    let one : a.0 ≡ read.0 = ap (λ x. x.0) triple in
+    let two : b.0 ≡ read.1 = ap (λ x. x.1) triple in
+    let three : b.1 ≡ read.2 = ap (λ x. x.2) triple in
+    (cc, subst (λ m. m < 2 ^ 64) one number.1, subst (λ m. m < 2 ^ 64) two numbers.1, subst (λ m. m < 2 ^ 64) three numbers.2)))
 
 pub five_numbers-is : (words : List (List ℕ)) (read : ℕ × ℕ × ℕ × ℕ × ℕ) → five_numbers words ≡ Ok read
     → words ≡ decimals (read.0 ∷ read.1 ∷ read.2 ∷ read.3 ∷ read.4 ∷ [])
@@ -107,13 +107,13 @@ five_numbers-is words read h =
     both_gave _ (number_word words) (λ a. number_word a.1 >>= (λ b. three_numbers b.1 >>= (λ c. Ok (a.0, b.0, c.0, c.1, c.2)))) read h (λ a first rest.
     both_gave _ (number_word a.1) (λ b. three_numbers b.1 >>= (λ c. Ok (a.0, b.0, c.0, c.1, c.2))) read rest (λ b second more.
     both_gave _ (three_numbers b.1) (λ c. Ok (a.0, b.0, c.0, c.1, c.2)) read more (λ c last same.
-      let number = number_word-is words a first in
-      let next = number_word-is a.1 b second in
-      let numbers = three_numbers-is b.1 c last in
-      let five : (a.0, b.0, c.0, c.1, c.2) ≡ read = cc in
-      let one : a.0 ≡ read.0 = ap (λ x. x.0) five in
-      let two : b.0 ≡ read.1 = ap (λ x. x.1) five in
-      let three : c.0 ≡ read.2 = ap (λ x. x.2) five in
-      let four : c.1 ≡ read.3 = ap (λ x. x.3) five in
-      let last_one : c.2 ≡ read.4 = ap (λ x. x.4) five in
-      cc)))
+    let number = number_word-is words a first in
+    let next = number_word-is a.1 b second in
+    let numbers = three_numbers-is b.1 c last in
+    let five : (a.0, b.0, c.0, c.1, c.2) ≡ read = cc in
+    let one : a.0 ≡ read.0 = ap (λ x. x.0) five in
+    let two : b.0 ≡ read.1 = ap (λ x. x.1) five in
+    let three : c.0 ≡ read.2 = ap (λ x. x.2) five in
+    let four : c.1 ≡ read.3 = ap (λ x. x.3) five in
+    let last_one : c.2 ≡ read.4 = ap (λ x. x.4) five in
+    cc)))

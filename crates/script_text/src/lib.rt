@@ -1,16 +1,19 @@
 //! The lines of a script: read one after another from a file, and each as an item.
 #![tactic(auto)]
 
+mod commands;
 mod numbers;
-mod object_forms;
+mod objects;
 mod parse;
 mod piece;
+mod print;
 mod ranges;
 mod reader;
-mod slot_forms;
-mod structure_forms;
+mod slots;
+mod structures;
 mod words;
 
+pub use commands::print_command;
 pub use parse::parse_line;
 pub use reader::{LineReader, ReadEnd};
 pub use store_model::{BadLine, Command, Item};

@@ -1,18 +1,20 @@
 //! What a line of a script says.
 
-ghost use Rattle.std.specs.Prelude.{◌≡◌, Ok, false};
+ghost use Rattle.std.specs.Prelude.{◌≡◌, ◌↔◌, Ok, false};
 ghost use Rattle.store_model.specs.Numbers.{words_of};
 ghost use Rattle.store_model.specs.Grammar.{item_of, form_of, setting_of, setting_form, type_form, fixed_shape, destructor_word, end_of_type, is_above_shape};
+ghost use Rattle.script_text.specs.ItemLine.{IsLineOf};
 ghost use Rattle.script_text.specs.Words.{words_in, type_of};
 
-use crate::object_forms::parse_command;
+use crate::objects::parse_command;
 use crate::ranges::type_number;
 use crate::words::{Words, one_number, split_word, take_end, take_number};
 use store_model::{BadLine, Item, Shape, TypeInfo};
 
 /// What a line says, of which its LF is no part.
 pub fn parse_line(line: &[u8]) -> Result<Item, BadLine>
-    ensures { result ≡ item_of line.now }
+    ensures reading { result ≡ item_of line.now }
+    ensures grammar { (item : Item) → (result ≡ Ok item) ↔ IsLineOf item line.now }
 {
     if line.is_empty() || line[0] == b'#' {
         return Ok(Item::Blank);

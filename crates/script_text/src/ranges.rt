@@ -62,3 +62,11 @@ pub fn two_slots(words: Words<'_>) -> Result<(u32, u32), BadLine>
     let (a, b) = two_numbers(words)?;
     Ok((slot_number(a)?, slot_number(b)?))
 }
+
+/// A slot and a queue, and no word behind their numbers.
+pub fn slot_and_queue(words: Words<'_>) -> Result<(u32, u64), BadLine>
+    ensures { result ≡ two_slots (words_in words.entry) }
+{
+    let (slot, queue) = two_slots(words)?;
+    Ok((slot, u64::from(queue)))
+}

@@ -1,13 +1,18 @@
 //! The lines of the commands on objects and their items.
 
-ghost use Rattle.std.specs.Prelude.{◌≡◌};
+ghost use Rattle.std.specs.Prelude.{◌≡◌, ◌++◌, ◌∷◌, [], OnOk, OnErr};
 ghost use Rattle.store_model.specs.declared.command.Command.TheVariants.{NewWeak, Put, Get, Link, Load};
 ghost use Rattle.store_model.specs.CommandGrammar.{command_form, new_form, copy_form, with_two, with_three};
+ghost use Rattle.store_model.specs.ItemText.{joined, command_words};
+ghost use Rattle.script_text.specs.ItemLine.{StoresWord};
+ghost use Rattle.script_text.specs.Printing.{Extends};
 ghost use Rattle.script_text.specs.Words.{words_in};
 
+use crate::print::print_line;
 use crate::ranges::{item_number, slot_number, type_number};
-use crate::slot_forms::parse_slot_command;
+use crate::slots::{parse_slot_command, print_slot_command};
 use crate::words::{Words, five_numbers, one_number, take_number, three_numbers, two_numbers};
+use std::alloc::AllocError;
 use store_model::{BadLine, Command};
 
 /// The command of a line, by its first word and the words behind it.
@@ -133,4 +138,45 @@ fn parse_copy(words: Words<'_>) -> Result<Command, BadLine>
         from_item,
         count,
     })
+}
+
+/// Appends the line of a command, with LF.
+#[tactic(auto, unfolding(store_model::specs::ItemText::command_words))]
+pub fn print_object_command(command: &Command, out: &mut Vec<u8>) -> Result<(), AllocError>
+    ensures ok { OnOk result (out.new.items ≡ out.old.items ++ (joined (command_words command.now) ++ 10 ∷ [])) }
+    ensures stored { StoresWord command.now }
+    ensures err { OnErr result (Extends out.old.items out.new.items) }
+{
+    match *command {
+        Command::NewFixed { root, type_id } => {
+            print_line(b"new", &[root.into(), type_id.into()], out)
+        }
+        Command::NewArray { root, type_id, len } => {
+            print_line(b"new", &[root.into(), type_id.into(), len], out)
+        }
+        Command::NewWeak {
+            root,
+            type_id,
+            target,
+        } => { print_line(b"weak", &[root.into(), type_id.into(), target.into()], out) }
+        Command::Put { root, item, value } => print_line(b"put", &[root.into(), item, value], out),
+        Command::Get { root, item } => print_line(b"get", &[root.into(), item], out),
+        Command::Link { root, item, from } => {
+            print_line(b"link", &[root.into(), item, from.into()], out)
+        }
+        Command::Load { to, root, item } => {
+            print_line(b"load", &[to.into(), root.into(), item], out)
+        }
+        Command::CopyRefs {
+            root,
+            item,
+            from,
+            from_item,
+            count,
+        } => {
+            let numbers = [root.into(), item, from.into(), from_item, count];
+            print_line(b"copyrefs", &numbers, out)
+        }
+        _ => print_slot_command(command, out),
+    }
 }
