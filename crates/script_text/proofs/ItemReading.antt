@@ -12,7 +12,7 @@ use Rattle.store_model.specs.Range.{is_above_ids}
 use Rattle.store_model.specs.Numbers.{◌>>=◌, number_word, one_number}
 use Rattle.store_model.specs.Grammar.{setting_names, setting_of, setting_with, setting_form, shape_words, destructor_word, end_of_type, is_above_shape, type_in_range, type_form, form_of, item_of}
 use Rattle.store_model.specs.ItemText.{joined, decimals, shape_text, destructor_text, item_words, item_text}
-use Rattle.script_text.specs.ItemLine.{IsTypeInRange, HasLine, is_blank, IsLineOf}
+use Rattle.store_model.specs.ItemLine.{IsTypeInRange, HasLine, is_blank, IsLineOf}
 use Rattle.script_text.proofs.Separated.{is_word}
 use Rattle.script_text.proofs.Decimals.{is_word-decimal}
 use Rattle.script_text.proofs.ReadWords.{number_word-decimal, one_number-decimals}

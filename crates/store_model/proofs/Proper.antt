@@ -1,5 +1,5 @@
 -- Every line that a command may print can be printed.
-use Rattle.std.proofs.Common.{◌≡◌, ℕ, List, [], ◌∷◌, ◌++◌, Option, Some, None, refl, sym, ap, ◌∙◌, subst, append-nil, arith, zero, suc, ◌<◌, length}
+use Rattle.std.proofs.Common.{◌≡◌, List, [], ◌∷◌, Option, Some, None, sym, subst, append-nil, arith, zero, suc}
 use Rattle.std.specs.Prelude.{All}
 use Rattle.type_table.specs.declared.info.TypeInfo.{TypeInfo}
 use Rattle.store_model.specs.declared.command.Command.{Command}
