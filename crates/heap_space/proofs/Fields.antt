@@ -86,7 +86,8 @@ module _ (s : Inside) (i : HasAreas s) (m : Memory) (e : memory_of s ≡ m) (a :
       ap (λ (ks : List Placed). has ks a) f
       ∙ has-large (nursery_of s) s.arena_words s.next_large a (arenas_of s) (larges_of s) i.arenas i.arena_some i.nursery_ends i.arenas_end i.larges here l
 
-  pub at-large : (ls : List Placed) → ls ≡ larges_of s → (k n : ℕ) (x : Placed) → n ≡ length (arenas_of s) → k < length ls
+  pub at-large : (ls : List Placed) → ls ≡ larges_of s → (k n : ℕ) (x : Placed) → n ≡ length (arenas_of s)
+      → k < length ls
       → x ≡ get_or (larges_of s) k x → ((d : Placed) → covers (get_or ls k d) a ≡ true)
       → (x.base ≤ a) × IsSeat m.blocks a (n + k + 1) (a - x.base)
   at-large ls f k n x g l w v =
@@ -155,7 +156,8 @@ module _ (s : Inside) (i : HasAreas s) (m : Memory) (e : memory_of s ≡ m) (a w
   pub word-arena : (x : Placed) → w ≢ 0 → w ≤ length (arenas_of s) → x ≡ get_or (arenas_of s) (w - 1) x → HasWord x
   word-arena x z l f = at-block x (arena-is x z l f)
 
-  pub word-large : (x : Placed) (n : ℕ) → n ≡ length (arenas_of s) → n < w → x ≡ get_or (larges_of s) (w - 1 - n) x → HasWord x
+  pub word-large : (x : Placed) (n : ℕ) → n ≡ length (arenas_of s) → n < w → x ≡ get_or (larges_of s) (w - 1 - n) x
+      → HasWord x
   word-large x n g l f = at-block x (large-is x n g l f)
 
   -- a word is written to the block that has it
@@ -172,7 +174,8 @@ module _ (s : Inside) (i : HasAreas s) (m : Memory) (e : memory_of s ≡ m) (a w
         with_word-index 1 s.next_large a v w (memory_of s).blocks p (space-rises s i) sits.inside (sits.covered p)
         ∙ ap (set (memory_of s).blocks w) (seat-written a w o v (memory_of s).blocks p sits ∙ ap with_word_of f)
 
-    finish : (s' : Inside) → memory_of s' ≡ record (memory_of s) { blocks = with_word (memory_of s).blocks a v } → Writes s'
+    finish : (s' : Inside) → memory_of s' ≡ record (memory_of s) { blocks = with_word (memory_of s).blocks a v }
+        → Writes s'
     finish s' f = f ∙ ap (λ (n : Memory). record n { blocks = with_word n.blocks a v }) e
 
     pub set-nursery : (ws : List ℕ) → w ≡ 0 → ws ≡ set s.nursery o v → Writes (record s { nursery = ws })
@@ -183,7 +186,8 @@ module _ (s : Inside) (i : HasAreas s) (m : Memory) (e : memory_of s ≡ m) (a w
         let new = ap (λ (us : List ℕ). nursery_block us ∷ (arenas_of s ++ larges_of s)) f in
         finish (record s { nursery = ws }) (ap (λ (bs : List Placed). record (memory_of s) { blocks = bs }) (new ∙ sym (old ∙ first)))
 
-    pub set-arena : (x y : Placed) → w ≢ 0 → w ≤ length (arenas_of s) → x ≡ get_or (arenas_of s) (w - 1) x → y ≡ with_word_of x
+    pub set-arena : (x y : Placed) → w ≢ 0 → w ≤ length (arenas_of s) → x ≡ get_or (arenas_of s) (w - 1) x
+        → y ≡ with_word_of x
         → HasAreas (record s { arenas = with_item s.arenas (w - 1) y }) × Writes (record s { arenas = with_item s.arenas (w - 1) y })
     set-arena x y z l f g =
         let k : ℕ = w - 1 in let s' = record s { arenas = with_item s.arenas k y } in
@@ -210,12 +214,14 @@ module _ (s : Inside) (i : HasAreas s) (m : Memory) (e : memory_of s ≡ m) (a w
               ∙ ap (λ (bs : List Placed). record (memory_of s) { blocks = bs }) all),
         )
 
-    pub set-large : (x y : Placed) (c : ℕ) → c ≡ length (arenas_of s) → c < w → x ≡ get_or (larges_of s) (w - 1 - c) x → y ≡ with_word_of x
+    pub set-large : (x y : Placed) (c : ℕ) → c ≡ length (arenas_of s) → c < w → x ≡ get_or (larges_of s) (w - 1 - c) x
+        → y ≡ with_word_of x
         → HasAreas (record s { larges = with_item s.larges (w - 1 - c) y }) × Writes (record s { larges = with_item s.larges (w - 1 - c) y })
     set-large x y c h l f g =
         let k : ℕ = w - 1 - c in let s' = record s { larges = with_item s.larges k y } in
         let b = sits.inside in let ab = length-append (arenas_of s) (larges_of s) in
-        let kl : k < length (larges_of s) = omega (arith, l, h, ab, b) in let is : w ≡ suc (w - 1) = omega (arith, l) in
+        let kl : k < length (larges_of s) = omega (arith, l, h, ab, b) in
+        let is : w ≡ suc (w - 1) = omega (arith, l) in
         let right : set (arenas_of s ++ larges_of s) (w - 1) y ≡ arenas_of s ++ set (larges_of s) k y =
         set-append_right (arenas_of s) (larges_of s) c (w - 1) y (sym h) (omega (arith, l)) in
         let all : nursery_of s ∷ (arenas_of s ++ set (larges_of s) k y) ≡ with_word (memory_of s).blocks a v =
@@ -271,7 +277,8 @@ module _ (s : Inside) (i : HasAreas s) (x : Placed) where
         λ j. record { blocks = all j; arena_words = s.arena_words; next_arena = next j; next_large = s.next_large },
       )
 
-  pub add-large : (v : Vec Placed Global) (n : ℕ) → v.items ≡ larges_of s ++ x ∷ [] → x ≡ zeros_at s.next_large n → s.next_large + n < 2 ^ 63
+  pub add-large : (v : Vec Placed Global) (n : ℕ) → v.items ≡ larges_of s ++ x ∷ [] → x ≡ zeros_at s.next_large n
+      → s.next_large + n < 2 ^ 63
       → HasAreas (record s { larges = v; next_large = s.next_large + n })
       × (memory_of (record s { larges = v; next_large = s.next_large + n }) ≡ with_large (memory_of s) n)
   add-large v n f q l =
@@ -283,7 +290,8 @@ module _ (s : Inside) (i : HasAreas s) (x : Placed) where
       let all : nursery_of s ∷ (arenas_of s ++ v.items) ≡ with_block (memory_of s).blocks (zeros_at s.next_large n) =
       ap (λ (ps : List Placed). nursery_of s ∷ (arenas_of s ++ ps)) f
       ∙ sym (append_assoc (nursery_of s ∷ arenas_of s) (larges_of s) (x ∷ []))
-      ∙ sym put ∙ ap (λ (ps : List Placed). with_block ps x) (append-nil (memory_of s).blocks) ∙ ap (with_block (memory_of s).blocks) q in (
+      ∙ sym put ∙ ap (λ (ps : List Placed). with_block ps x) (append-nil (memory_of s).blocks)
+      ∙ ap (with_block (memory_of s).blocks) q in (
         record {
           nursery_some = i.nursery_some;
           nursery_ends = i.nursery_ends;
@@ -315,7 +323,8 @@ module _ (s : Inside) (i : HasAreas s) (m : Memory) (e : memory_of s ≡ m) (a :
   pub base-held : (ls : List Placed) → ls ≡ larges_of s → has ls a ≡ true
   base-held ls f = ap (λ (ks : List Placed). has ks a) f ∙ is_base-has (larges_of s) a large-base
 
-  pub empty-large : (ls : List Placed) (k : ℕ) → ls ≡ larges_of s → k < length ls → ((d : Placed) → covers (get_or ls k d) a ≡ true)
+  pub empty-large : (ls : List Placed) (k : ℕ) → ls ≡ larges_of s → k < length ls
+      → ((d : Placed) → covers (get_or ls k d) a ≡ true)
       → {x : Placed} → x ≡ get_or (larges_of s) k x → (y : Placed) → y ≡ record x { words = [] }
       → HasAreas (record s { larges = with_item s.larges k y }) × (memory_of (record s { larges = with_item s.larges k y }) ≡ with_emptied m a)
   empty-large ls k f h c {x} at y q =
@@ -325,7 +334,8 @@ module _ (s : Inside) (i : HasAreas s) (m : Memory) (e : memory_of s ≡ m) (a :
       let short : length y.words ≤ length (get_or (larges_of s) k x).words = omega (arith, ap (λ (p : Placed). length p.words) q) in
       let gone : map (emptied a) (larges_of s) ≡ set (larges_of s) k y =
       emptied-index 1099511627776 s.next_large a k (larges_of s) x i.larges h' (c' x) large-base
-      ∙ ap (λ (p : Placed). set (larges_of s) k (record p { words = [] })) (sym at) ∙ ap (set (larges_of s) k) (sym q) in
+      ∙ ap (λ (p : Placed). set (larges_of s) k (record p { words = [] })) (sym at)
+      ∙ ap (set (larges_of s) k) (sym q) in
       let all : nursery_of s ∷ (arenas_of s ++ set (larges_of s) k y) ≡ map (emptied a) (memory_of s).blocks =
       ap (λ (ps : List Placed). nursery_of s ∷ (arenas_of s ++ ps)) (sym gone)
       ∙ sym (emptied-behind (nursery_of s) (arenas_of s) (larges_of s) a no-nursery no-arena) in (

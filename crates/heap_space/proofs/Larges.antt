@@ -20,15 +20,18 @@ bases-rise from end i j ps d r l m = elim (cases_eq i j) [
 ]
 
 -- no block has the place, where all begin above it
-pub has-parted_none : (from end a : ℕ) (ps : List Placed) (n : ℕ) → RiseTo from ps end → PartsAt ps a n → n ≡ 0 → has ps a ≡ false
+pub has-parted_none : (from end a : ℕ) (ps : List Placed) (n : ℕ) → RiseTo from ps end → PartsAt ps a n → n ≡ 0
+    → has ps a ≡ false
 has-parted_none from end a [] n r parts z = refl
 has-parted_none from end a (p ∷ ps) n r parts z =
     let above : a < p.base = parts.above 0 p (omega (arith, z)) (omega arith) in
     has-below p.base end a (p ∷ ps) (omega arith, r.1) above
 
 -- else it is the last one that begins at it or below
-found_at : (from end a low : ℕ) (ps : List Placed) (d : Placed) → RiseTo from ps end → has ps a ≡ true → low < length ps
-    → (get_or ps low d).base ≤ a → (suc low < length ps → a < (get_or ps (suc low) d).base) → covers (get_or ps low d) a ≡ true
+found_at : (from end a low : ℕ) (ps : List Placed) (d : Placed) → RiseTo from ps end → has ps a ≡ true
+    → low < length ps
+    → (get_or ps low d).base ≤ a → (suc low < length ps → a < (get_or ps (suc low) d).base)
+    → covers (get_or ps low d) a ≡ true
 found_at from end a low [] d r h l b n = grind arith
 found_at from end a zero (p ∷ []) d r h l b n = grind arith
 found_at from end a zero (p ∷ q ∷ ps) d r h l b n =
@@ -37,7 +40,8 @@ found_at from end a (suc low) (p ∷ ps) d r h l b n =
     let m = base-from (end_of p) end low ps d r.1 (omega (arith, l)) in let e = covers-above p a (omega arith) in
     found_at (end_of p) end a low ps d r.1 (grind arith) (omega (arith, l)) b (λ m. n (omega (arith, m)))
 
-pub covers-parted : (from end a n : ℕ) (ps : List Placed) (d : Placed) → RiseTo from ps end → PartsAt ps a n → 0 < n → n ≤ length ps
+pub covers-parted : (from end a n : ℕ) (ps : List Placed) (d : Placed) → RiseTo from ps end → PartsAt ps a n → 0 < n
+    → n ≤ length ps
     → covers (get_or ps (n - 1) d) a ≡ has ps a
 covers-parted from end a n ps d r parts z l =
     let low : ℕ = n - 1 in let next : suc low ≡ n = omega (arith, z) in
@@ -47,7 +51,8 @@ covers-parted from end a n ps d r parts z l =
     (λ m. parts.above (suc low) d (omega (arith, next)) m))
 
 -- where a block has it, one begins at it or below
-pub parted_some : (from end a n : ℕ) (ps : List Placed) → RiseTo from ps end → PartsAt ps a n → has ps a ≡ true → 0 < n
+pub parted_some : (from end a n : ℕ) (ps : List Placed) → RiseTo from ps end → PartsAt ps a n → has ps a ≡ true
+    → 0 < n
 parted_some from end a n ps r parts h = elim (cases_eq n 0) [
   | inl z ↦ (let none = has-parted_none from end a ps n r parts z in absurd (true≢false (sym h ∙ none)))
   | inr ne ↦ omega (arith, ne)

@@ -26,7 +26,8 @@ ordered-fresh nursery arena_words l z m =
       large_small = omega arith;
     }
 
-pub ordered-with_word : (m : Memory) (a v : ℕ) → IsInOrder m → IsInOrder (record m { blocks = with_word m.blocks a v })
+pub ordered-with_word : (m : Memory) (a v : ℕ) → IsInOrder m
+    → IsInOrder (record m { blocks = with_word m.blocks a v })
 ordered-with_word m a v o = record {
   rises = rise-with_word 1 m.next_large a v m.blocks o.rises;
   free = λ b l h. has-with_word m.blocks a v b ∙ o.free b l h;
@@ -37,7 +38,8 @@ ordered-with_word m a v o = record {
   large_small = o.large_small;
 }
 
-pub ordered-with_run : (m : Memory) (a : ℕ) (xs : List ℕ) → IsInOrder m → IsInOrder (record m { blocks = with_run m.blocks a xs })
+pub ordered-with_run : (m : Memory) (a : ℕ) (xs : List ℕ) → IsInOrder m
+    → IsInOrder (record m { blocks = with_run m.blocks a xs })
 ordered-with_run m a xs o = record {
   rises = rise-with_run 1 m.next_large a xs m.blocks o.rises;
   free = λ b l h. has-with_run m.blocks a xs b ∙ o.free b l h;
@@ -65,7 +67,8 @@ ordered-without_large m a o = record {
 
 -- where the next blocks come, nothing lies yet
 
-pub has-next_arena : (m : Memory) (b : ℕ) → IsInOrder (with_arena m) → IsInOrder m → within m.next_arena m.arena_words b ≡ true
+pub has-next_arena : (m : Memory) (b : ℕ) → IsInOrder (with_arena m) → IsInOrder m
+    → within m.next_arena m.arena_words b ≡ true
     → has m.blocks b ≡ false
 has-next_arena m b new o h = let e = new.arenas_end in o.free b (grind (arith, nat_tests)) (grind (arith, nat_tests))
 
@@ -77,12 +80,14 @@ has-next_large m b o l = has-above 1 m.next_large b m.blocks o.rises l
 covers-zeros : (a n b : ℕ) → covers (zeros_at a n) b ≡ within a n b
 covers-zeros a n b = let e = length-zeros_at a n in grind (arith, nat_tests)
 
-pub has-with_arena : (m : Memory) (b : ℕ) → has (with_arena m).blocks b ≡ (within m.next_arena m.arena_words b || has m.blocks b)
+pub has-with_arena : (m : Memory) (b : ℕ)
+    → has (with_arena m).blocks b ≡ (within m.next_arena m.arena_words b || has m.blocks b)
 has-with_arena m b =
     let q = zeros_at m.next_arena m.arena_words in let c = covers-zeros m.next_arena m.arena_words b in
     has-with_block m.blocks q b ∙ ap (λ t. t || has m.blocks b) c
 
-pub has-with_large : (m : Memory) (n b : ℕ) → has (with_large m n).blocks b ≡ (within m.next_large n b || has m.blocks b)
+pub has-with_large : (m : Memory) (n b : ℕ)
+    → has (with_large m n).blocks b ≡ (within m.next_large n b || has m.blocks b)
 has-with_large m n b =
     let q = zeros_at m.next_large n in let c = covers-zeros m.next_large n b in
     has-with_block m.blocks q b ∙ ap (λ t. t || has m.blocks b) c
@@ -112,10 +117,12 @@ begins-zeros a n l = let e = length-zeros_at a n in grind (arith, nat_tests)
 
 pub is_base-with_large : (m : Memory) (n : ℕ) → 0 < n → is_base (with_large m n).blocks m.next_large ≡ true
 is_base-with_large m n l =
-    let t = begins-zeros m.next_large n l in let e = is_base-with_block m.blocks (zeros_at m.next_large n) m.next_large in
+    let t = begins-zeros m.next_large n l in
+    let e = is_base-with_block m.blocks (zeros_at m.next_large n) m.next_large in
     grind arith
 
-pub length_at-with_large : (m : Memory) (n : ℕ) → IsInOrder m → 0 < n → length_at (with_large m n).blocks m.next_large ≡ n
+pub length_at-with_large : (m : Memory) (n : ℕ) → IsInOrder m → 0 < n
+    → length_at (with_large m n).blocks m.next_large ≡ n
 length_at-with_large m n o l =
     let none = has-next_large m m.next_large o (omega arith) in let f = is_base-has m.blocks m.next_large in
     let no_base : is_base m.blocks m.next_large ≡ false = grind arith in
@@ -131,7 +138,8 @@ pub is_base-kept : (m : Memory) (n a : ℕ) → a < m.next_large → is_base (wi
 is_base-kept m n a l =
     let f = begins-later m n a l in is_base-with_block m.blocks (zeros_at m.next_large n) a ∙ rw f refl
 
-pub length_at-kept : (m : Memory) (n a : ℕ) → a < m.next_large → length_at (with_large m n).blocks a ≡ length_at m.blocks a
+pub length_at-kept : (m : Memory) (n a : ℕ) → a < m.next_large
+    → length_at (with_large m n).blocks a ≡ length_at m.blocks a
 length_at-kept m n a l = length_at-with_block m.blocks (zeros_at m.next_large n) a (begins-later m n a l)
 
 -- a large block is dropped: its places are gone, and every other word is as it was

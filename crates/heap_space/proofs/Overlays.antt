@@ -5,17 +5,20 @@ use Rattle.std.specs.Prelude.{slice_index, slice_range}
 use Rattle.std.proofs.lemmas.List.{drop_more}
 use Rattle.heap_space.specs.Runs.{within, overlaid, with_words}
 
-pub length-overlaid : (base : ℕ) (words : List ℕ) (a : ℕ) (xs : List ℕ) → length (overlaid base words a xs) ≡ length words
+pub length-overlaid : (base : ℕ) (words : List ℕ) (a : ℕ) (xs : List ℕ)
+    → length (overlaid base words a xs) ≡ length words
 length-overlaid base [] a xs = refl
 length-overlaid base (w ∷ ws) a xs = ap suc (length-overlaid (base + 1) ws a xs)
 
 -- no place of xs is among those of the words
-pub overlaid-none : (base : ℕ) (words : List ℕ) (a : ℕ) (xs : List ℕ) → base + length words ≤ a → overlaid base words a xs ≡ words
+pub overlaid-none : (base : ℕ) (words : List ℕ) (a : ℕ) (xs : List ℕ) → base + length words ≤ a
+    → overlaid base words a xs ≡ words
 overlaid-none base [] a xs l = refl
 overlaid-none base (w ∷ ws) a xs l = let e = overlaid-none (base + 1) ws a xs (omega (arith, l)) in grind (arith, nat_tests)
 
 -- the first of xs lies before the words
-pub overlaid-later : (base : ℕ) (words : List ℕ) (a x : ℕ) (xs : List ℕ) → a < base → overlaid base words (a + 1) xs ≡ overlaid base words a (x ∷ xs)
+pub overlaid-later : (base : ℕ) (words : List ℕ) (a x : ℕ) (xs : List ℕ) → a < base
+    → overlaid base words (a + 1) xs ≡ overlaid base words a (x ∷ xs)
 overlaid-later base [] a x xs l = refl
 overlaid-later base (w ∷ ws) a x xs l =
     let e = overlaid-later (base + 1) ws a x xs (omega (arith, l)) in
@@ -38,7 +41,8 @@ overlaid-first base (w ∷ ws) (suc k) x xs =
     rw z (grind (arith, nat_tests))
 
 pub get_or-overlaid : (base : ℕ) (words : List ℕ) (a : ℕ) (xs : List ℕ) (i : ℕ) → i < length words
-    → get_or (overlaid base words a xs) i 0 ≡ (if within a (length xs) (base + i) then get_or xs ((base + i) - a) 0 else get_or words i 0)
+    → get_or (overlaid base words a xs) i 0
+    ≡ (if within a (length xs) (base + i) then get_or xs ((base + i) - a) 0 else get_or words i 0)
 get_or-overlaid base [] a xs i l = absurd (omega (arith, l))
 get_or-overlaid base (w ∷ ws) a xs zero l = let z : base + 0 ≡ base = omega arith in rw z refl
 get_or-overlaid base (w ∷ ws) a xs (suc i) l =

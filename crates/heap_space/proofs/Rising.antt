@@ -46,7 +46,8 @@ pub rise-less : (less from end : ℕ) (ps : List Placed) → less ≤ from → R
 rise-less less from end [] l r = omega (arith, l, r)
 rise-less less from end (p ∷ ps) l r = (omega (arith, l, r.0), r.1)
 
-pub rise-append : (from middle end : ℕ) (xs ys : List Placed) → RiseTo from xs middle → RiseTo middle ys end → RiseTo from (xs ++ ys) end
+pub rise-append : (from middle end : ℕ) (xs ys : List Placed) → RiseTo from xs middle → RiseTo middle ys end
+    → RiseTo from (xs ++ ys) end
 rise-append from middle end [] [] r s = omega (arith, r, s)
 rise-append from middle end [] (y ∷ ys) r s = (omega (arith, r, s.0), s.1)
 rise-append from middle end (x ∷ xs) ys r s = (r.0, rise-append (end_of x) middle end xs ys r.1 s)
@@ -60,7 +61,8 @@ rise-with_word from end a v [] r = r
 rise-with_word from end a v (p ∷ ps) r =
     (r.0, rise-long end p.base _ _ (with_word ps a v) (length-written a v p) (rise-with_word (end_of p) end a v ps r.1))
 
-pub rise-with_run : (from end a : ℕ) (xs : List ℕ) (ps : List Placed) → RiseTo from ps end → RiseTo from (with_run ps a xs) end
+pub rise-with_run : (from end a : ℕ) (xs : List ℕ) (ps : List Placed) → RiseTo from ps end
+    → RiseTo from (with_run ps a xs) end
 rise-with_run from end a xs [] r = r
 rise-with_run from end a xs (p ∷ ps) r =
     (r.0, rise-long end p.base _ _ (with_run ps a xs) (length-overwritten a xs p) (rise-with_run (end_of p) end a xs ps r.1))
@@ -74,7 +76,8 @@ rise-without from end a (p ∷ ps) r =
 
 -- a block that comes between others
 
-pub with_block-first : (from end : ℕ) (ps : List Placed) (q : Placed) → RiseTo from ps end → q.base < from → with_block ps q ≡ q ∷ ps
+pub with_block-first : (from end : ℕ) (ps : List Placed) (q : Placed) → RiseTo from ps end → q.base < from
+    → with_block ps q ≡ q ∷ ps
 with_block-first from end [] q r l = refl
 with_block-first from end (p ∷ ps) q r l =
     let e : nat_lt q.base p.base ≡ true = (let f = r.0 in grind (arith, nat_tests)) in rw e refl
@@ -88,7 +91,8 @@ with_block-between from middle later end (x ∷ xs) ys q r l m s =
 
 -- blocks by their number
 
-pub at_index : (from end a i : ℕ) (ps : List Placed) (d : Placed) → RiseTo from ps end → i < length ps → covers (get_or ps i d) a ≡ true
+pub at_index : (from end a i : ℕ) (ps : List Placed) (d : Placed) → RiseTo from ps end → i < length ps
+    → covers (get_or ps i d) a ≡ true
     → (has ps a ≡ true) × (word_at ps a ≡ slice_index (get_or ps i d).words (a - (get_or ps i d).base))
 at_index from end a i [] d r l h = grind arith
 at_index from end a zero (p ∷ ps) d r l h = grind arith
@@ -111,7 +115,8 @@ with_word-index from end a v (suc i) (p ∷ ps) d r l h =
     let w = has-within (end_of p) end a ps r.1 m.0 in let e = written-none a v p (covers-above p a w.0) in
     let f = with_word-index (end_of p) end a v i ps d r.1 (omega (arith, l)) h in grind (arith, e, f)
 
-pub base-from : (from end i : ℕ) (ps : List Placed) (d : Placed) → RiseTo from ps end → i < length ps → from ≤ (get_or ps i d).base
+pub base-from : (from end i : ℕ) (ps : List Placed) (d : Placed) → RiseTo from ps end → i < length ps
+    → from ≤ (get_or ps i d).base
 base-from from end i [] d r l = grind arith
 base-from from end zero (p ∷ ps) d r l = r.0
 base-from from end (suc i) (p ∷ ps) d r l =
@@ -133,7 +138,8 @@ spans-here from end a n zero (p ∷ ps) d r l z h o =
     let c = covers-inside p a h in let m = has-below (end_of p) end a ps r.1 c.1 in
     let g = lies-has ps a n z in grind (arith, nat_tests)
 spans-here from end a n (suc i) (p ∷ ps) d r l z h o =
-    let m = at_index (end_of p) end a i ps d r.1 (omega (arith, l)) h in let w = has-within (end_of p) end a ps r.1 m.0 in
+    let m = at_index (end_of p) end a i ps d r.1 (omega (arith, l)) h in
+    let w = has-within (end_of p) end a ps r.1 m.0 in
     spans-here (end_of p) end a n i ps d r.1 (omega (arith, l)) z h (let q = w.0 in grind (arith, nat_tests))
 
 -- a block begins at most once at a place
@@ -181,7 +187,8 @@ word_at-kept from end a b (p ∷ ps) r h = elim (cases_Bool (begins p a)) [
 
 -- blocks that lie side by side
 
-pub arenas-rise : (from size : ℕ) (ps : List Placed) → AreArenas from size ps → RiseTo from ps (from + length ps * size)
+pub arenas-rise : (from size : ℕ) (ps : List Placed) → AreArenas from size ps
+    → RiseTo from ps (from + length ps * size)
 arenas-rise from size [] r = grind arith
 arenas-rise from size (p ∷ ps) r =
     let e : end_of p ≡ from + size = omega (arith, r.0, r.1) in let end : ℕ = from + length (p ∷ ps) * size in

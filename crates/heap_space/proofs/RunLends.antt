@@ -28,13 +28,15 @@ use denote.Steps.{looks, shuts}
 use Rattle.std.proofs.Common.{sym, ap, ◌∙◌}
 
 module _ {M : Type 1} {𝓤 : Ura M} (𝓛 : Logic 𝓤) (κ : Lft) where
-  pub shown : (d : Row.Denot) (b o : ℕ) → ent 𝓤 (sem 𝓛 (hidden_shr Row κ d b o)) (sep 𝓤 (sem 𝓛 (hidden_shr RawPtr κ d.ptr b (o + 0))) (sep 𝓤 (sem 𝓛 (hidden_shr usize κ d.len b (o + 8)))
+  pub shown : (d : Row.Denot) (b o : ℕ)
+      → ent 𝓤 (sem 𝓛 (hidden_shr Row κ d b o)) (sep 𝓤 (sem 𝓛 (hidden_shr RawPtr κ d.ptr b (o + 0))) (sep 𝓤 (sem 𝓛 (hidden_shr usize κ d.len b (o + 8)))
       (sep 𝓤 (sem 𝓛 (flt (d.len * 8) (2 ^ 63))) (sem 𝓛 (slots_lent u64 d.ptr d.items d.filled κ)))))
   shown d b o = qed 𝓛 (‵ (hidden_shr Row κ d b o) ∷ []) ∵
       use1 𝓛 (‵ (hidden_shr Data κ (d.ptr, (d.len, tt)) b o) ⊛ ‵ (fhide (C.the_lent d d.ptr κ))) (lent_out 𝓛 C.struct C.the_codes C.the_heap C.the_lent κ d b o) $ split ! $
       unhide ! $ fsplit ! $ fsplit ! $ move ! (1 ∷ []) $ fsplit ! $ keep ! (2 ∷ 0 ∷ 4 ∷ []) $ done !
 
-  pub none_at_null : (xs : List ℕ) (fs : List Bool) (i : ℕ) → i < length xs → i < length fs → get_or fs i false ≡ true → ent 𝓤 (sem 𝓛 (slots_lent u64 null_ptr xs fs κ)) (never 𝓤)
+  pub none_at_null : (xs : List ℕ) (fs : List Bool) (i : ℕ) → i < length xs → i < length fs → get_or fs i false ≡ true
+      → ent 𝓤 (sem 𝓛 (slots_lent u64 null_ptr xs fs κ)) (never 𝓤)
   none_at_null [] fs i l m full = absurd (not-suc-le-zero l)
   none_at_null (x ∷ xs) [] i l m full = absurd (not-suc-le-zero m)
   none_at_null (x ∷ xs) (f ∷ fs) zero l m full = qed 𝓛 (‵ (slot_lent u64 f null_ptr x κ) ∷ ‵ (slots_lent u64 null_ptr xs fs κ) ∷ []) ∵
@@ -42,19 +44,23 @@ module _ {M : Type 1} {𝓤 : Ura M} (𝓛 : Logic 𝓤) (κ : Lft) where
   none_at_null (x ∷ xs) (f ∷ fs) (suc i) l m full = qed 𝓛 (‵ (slot_lent u64 f null_ptr x κ) ∷ ‵ (slots_lent u64 null_ptr xs fs κ) ∷ []) ∵
       drop ! $ by ! (none_at_null xs fs i (le_of_suc-le-suc l) (le_of_suc-le-suc m) full)
 
-  one_lent : (b o : ℕ) (xs : List ℕ) (fs : List Bool) (i : ℕ) → i < length xs → i < length fs → get_or fs i false ≡ true
+  one_lent : (b o : ℕ) (xs : List ℕ) (fs : List Bool) (i : ℕ) → i < length xs → i < length fs
+      → get_or fs i false ≡ true
       → ent 𝓤 (sem 𝓛 (slots_lent u64 (block_ptr b o) xs fs κ)) (sem 𝓛 (hidden_shr u64 κ (get_or xs i 0) b (place 8 o i)))
   one_lent b o [] fs i l m full = absurd (not-suc-le-zero l)
   one_lent b o (x ∷ xs) [] i l m full = absurd (not-suc-le-zero m)
   one_lent b o (x ∷ xs) (f ∷ fs) zero l m full = qed 𝓛 (‵ (slot_lent u64 f (block_ptr b o) x κ) ∷ ‵ (slots_lent u64 (block_ptr b (o + 8)) xs fs κ) ∷ []) ∵
-      rewrite ! 0 (λ (g : Bool). ‵ (slot_lent u64 g (block_ptr b o) x κ)) full refl $ fsplit ! $ keep ! (1 ∷ []) $ done !
+      rewrite ! 0 (λ (g : Bool). ‵ (slot_lent u64 g (block_ptr b o) x κ)) full refl $ fsplit ! $ keep ! (1 ∷ []) $
+      done !
   one_lent b o (x ∷ xs) (f ∷ fs) (suc i) l m full = qed 𝓛 (‵ (slot_lent u64 f (block_ptr b o) x κ) ∷ ‵ (slots_lent u64 (block_ptr b (o + 8)) xs fs κ) ∷ []) ∵
       drop ! $ by ! (one_lent b (o + 8) xs fs i (le_of_suc-le-suc l) (le_of_suc-le-suc m) full)
 
-  pub word_lent : (b o : ℕ) (xs : List ℕ) (fs : List Bool) (i : ℕ) → i < length xs → i < length fs → get_or fs i false ≡ true
+  pub word_lent : (b o : ℕ) (xs : List ℕ) (fs : List Bool) (i : ℕ) → i < length xs → i < length fs
+      → get_or fs i false ≡ true
       → ent 𝓤 (sem 𝓛 (slots_lent u64 (block_ptr b o) xs fs κ)) (sem 𝓛 (hidden_shr u64 κ (get_or xs i 0) b (i * 8 + o)))
   word_lent b o xs fs i l m full = qed 𝓛 (‵ (slots_lent u64 (block_ptr b o) xs fs κ) ∷ []) ∵
-      use1 𝓛 (‵ (hidden_shr u64 κ (get_or xs i 0) b (place 8 o i))) (one_lent b o xs fs i l m full) $ rewrite ! 0 (λ (k : ℕ). ‵ (hidden_shr u64 κ (get_or xs i 0) b k)) (place_is 8 o i) refl $ done !
+      use1 𝓛 (‵ (hidden_shr u64 κ (get_or xs i 0) b (place 8 o i))) (one_lent b o xs fs i l m full) $
+      rewrite ! 0 (λ (k : ℕ). ‵ (hidden_shr u64 κ (get_or xs i 0) b k)) (place_is 8 o i) refl $ done !
 
 module _ {M : Type 1} {𝓤 : Ura M} {𝓛 : Logic 𝓤} {K : Type 0} {Γ : List (Item 𝓤)} {G : Goal 𝓤 𝓛.H} where
   -- a `usize` behind a `&` is looked at: [the word; the way back]
@@ -67,11 +73,13 @@ module _ {M : Type 1} {𝓤 : Ura M} {𝓛 : Logic 𝓤} {K : Type 0} {Γ : List
   pub word_out : K → Soaks G → {κ : Lft} {q q' : Share} (n b at : ℕ) → n < 2 ^ 64
       → Step K 𝓛 (‵ (flft κ q) ∷ Γ) G (‵ (fat q' (ty_int w64) b at (vint w64 n)) ∷ Shut 𝓛 κ q (part_at usize q' n b at) ∷ Γ) G
   word_out t z {q' = q'} n b at fn = step (λ s.
-      flt_i t n (2 ^ 64) fn $ feq_i t (List Val) (vint w64 n ∷ []) (vint w64 n ∷ []) refl $ fjoin t $ move t (1 ∷ 0 ∷ []) $ shuts t z usize q' n (vint w64 n ∷ []) b at $ s)
+      flt_i t n (2 ^ 64) fn $ feq_i t (List Val) (vint w64 n ∷ []) (vint w64 n ∷ []) refl $ fjoin t $
+      move t (1 ∷ 0 ∷ []) $ shuts t z usize q' n (vint w64 n ∷ []) b at $ s)
 
   -- the same of a pointer into a block
   pub pointer_in : K → Soaks G → {κ : Lft} {q : Share} (p : Ptr) (pb po : ℕ) → p ≡ block_ptr pb po → (b at : ℕ)
-      → ((q' : Share) → Seq K 𝓛 (‵ (fat q' ty_ptr b at (vptr pb po)) ∷ Shut 𝓛 κ q (part_at RawPtr q' p b at) ∷ Γ) G) → Seq K 𝓛 (‵ (hidden_shr RawPtr κ p b at) ∷ ‵ (flft κ q) ∷ Γ) G
+      → ((q' : Share) → Seq K 𝓛 (‵ (fat q' ty_ptr b at (vptr pb po)) ∷ Shut 𝓛 κ q (part_at RawPtr q' p b at) ∷ Γ) G)
+      → Seq K 𝓛 (‵ (hidden_shr RawPtr κ p b at) ∷ ‵ (flft κ q) ∷ Γ) G
   pointer_in t z p pb po is b at k =
       looks t z RawPtr (plain_Copied 𝓛 Ptr coded_ptr (ty_ptr ∷ []) ptr_own rawptr_pure ptr_val RawPtr-laws.tells).opens p b at (λ q' vs. move t (1 ∷ []) $ feq_l t (λ e.
       rewrite t 0 (λ (us : List Val). ‵ (cell_at q' RawPtr.mir us b at)) (e ∙ ap (λ (r : Ptr). ptr_val r ∷ []) is) refl $ move t (2 ∷ []) $ drop t $ k q'))
@@ -79,4 +87,5 @@ module _ {M : Type 1} {𝓤 : Ura M} {𝓛 : Logic 𝓤} {K : Type 0} {Γ : List
   pub pointer_out : K → Soaks G → {κ : Lft} {q q' : Share} (p : Ptr) (pb po : ℕ) → p ≡ block_ptr pb po → (b at : ℕ)
       → Step K 𝓛 (‵ (flft κ q) ∷ Γ) G (‵ (fat q' ty_ptr b at (vptr pb po)) ∷ Shut 𝓛 κ q (part_at RawPtr q' p b at) ∷ Γ) G
   pointer_out t z {q' = q'} p pb po is b at = step (λ s.
-      feq_i t (List Val) (vptr pb po ∷ []) (ptr_val p ∷ []) (ap (λ (r : Ptr). ptr_val r ∷ []) (sym is)) $ move t (1 ∷ 0 ∷ []) $ shuts t z RawPtr q' p (vptr pb po ∷ []) b at $ s)
+      feq_i t (List Val) (vptr pb po ∷ []) (ptr_val p ∷ []) (ap (λ (r : Ptr). ptr_val r ∷ []) (sym is)) $
+      move t (1 ∷ 0 ∷ []) $ shuts t z RawPtr q' p (vptr pb po ∷ []) b at $ s)

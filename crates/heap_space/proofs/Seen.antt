@@ -39,12 +39,14 @@ with_word-full [] a v = refl
 with_word-full (p ∷ ps) a v =
     grind (arith, has_words-long (written a v p) p (length-written a v p), with_word-full ps a v)
 
-pub with_run-full : (ps : List Placed) (a : ℕ) (xs : List ℕ) → with_run (full_blocks ps) a xs ≡ full_blocks (with_run ps a xs)
+pub with_run-full : (ps : List Placed) (a : ℕ) (xs : List ℕ)
+    → with_run (full_blocks ps) a xs ≡ full_blocks (with_run ps a xs)
 with_run-full [] a xs = refl
 with_run-full (p ∷ ps) a xs =
     grind (arith, has_words-long (overwritten a xs p) p (length-overwritten a xs p), with_run-full ps a xs)
 
-pub with_block-full : (from end : ℕ) (ps : List Placed) (q : Placed) → RiseTo from (with_block ps q) end → 0 < length q.words
+pub with_block-full : (from end : ℕ) (ps : List Placed) (q : Placed) → RiseTo from (with_block ps q) end
+    → 0 < length q.words
     → with_block (full_blocks ps) q ≡ full_blocks (with_block ps q)
 with_block-full from end [] q r l = let t : has_words q ≡ true = grind (arith, nat_tests) in rw t refl
 with_block-full from end (p ∷ ps) q r l = elim (cases_Bool (nat_lt q.base p.base)) [
@@ -62,9 +64,11 @@ full-emptied (p ∷ ps) a = grind (arith, nat_tests, full-emptied ps a)
 
 -- the same of memories
 
-pub seen-fresh : (nursery arena_words : ℕ) → 0 < nursery → seen (fresh_memory nursery arena_words) ≡ fresh_memory nursery arena_words
+pub seen-fresh : (nursery arena_words : ℕ) → 0 < nursery
+    → seen (fresh_memory nursery arena_words) ≡ fresh_memory nursery arena_words
 seen-fresh nursery arena_words l =
-    let e = length-zeros_at 1 nursery in let t : has_words (zeros_at 1 nursery) ≡ true = grind (arith, nat_tests) in rw t refl
+    let e = length-zeros_at 1 nursery in
+    let t : has_words (zeros_at 1 nursery) ≡ true = grind (arith, nat_tests) in rw t refl
 
 pub seen-with_arena : (m : Memory) → IsInOrder (with_arena m) → seen (with_arena m) ≡ with_arena (seen m)
 seen-with_arena m o =
@@ -72,7 +76,8 @@ seen-with_arena m o =
     ap (λ (ps : List Placed). record (with_arena m) { blocks = ps })
     (sym (with_block-full 1 m.next_large m.blocks (zeros_at m.next_arena m.arena_words) o.rises (omega arith)))
 
-pub seen-with_large : (m : Memory) (n : ℕ) → IsInOrder (with_large m n) → 0 < n → seen (with_large m n) ≡ with_large (seen m) n
+pub seen-with_large : (m : Memory) (n : ℕ) → IsInOrder (with_large m n) → 0 < n
+    → seen (with_large m n) ≡ with_large (seen m) n
 seen-with_large m n o l =
     let e = length-zeros_at m.next_large n in
     ap (λ (ps : List Placed). record (with_large m n) { blocks = ps })

@@ -233,7 +233,8 @@ impl Areas {
     // The word at a seat is v from then on.
     fn set_word(&mut self, seat: Seat, v: u64)
         requires { (a : ℕ) × IsSeat self.old.blocks a seat.block seat.offset }
-        ensures { (a : ℕ) → IsSeat self.old.blocks a seat.block seat.offset → self.new ≡ record self.old { blocks = with_word self.old.blocks a v } }
+        ensures { (a : ℕ) → IsSeat self.old.blocks a seat.block seat.offset
+            → self.new ≡ record self.old { blocks = with_word self.old.blocks a v } }
     {
         let arenas = self.arenas.len();
         if seat.block == 0 {

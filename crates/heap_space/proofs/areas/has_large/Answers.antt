@@ -10,7 +10,8 @@ returns-then-count-eq0 c = sym (has-parted_none _ _ _ _ _ c.requires.1 c.count_t
 
 pub returns : goal.returns
 returns c =
-    let x = c.index-larges-count.result in let n = c.count_to-count.result in let parts = c.count_to-count.ensures.parts in
+    let x = c.index-larges-count.result in let n = c.count_to-count.result in
+    let parts = c.count_to-count.ensures.parts in
     let some : 0 < n = omega (arith, c.if-count-eq0.false) in
     let low = subst (λ (p : Placed). p.base ≤ c.args.a) (sym c.index-larges-count.is) (parts.below (n - 1) x (omega (arith, some))) in
     let test : nat_lt (c.args.a - c.base.result) c.len.result ≡ covers x c.args.a = grind (arith, nat_tests, c.len.ensures, c.base.ensures, low) in

@@ -6,7 +6,8 @@ use Rattle.heap_space.proofs.Fields.{in-order, add-arena}
 use Rattle.heap_space.proofs.areas.Areas.add_arena.Goals as goal
 
 -- a block of zeros at a place that is counted
-new_block : (size count arenas : ℕ) (x : Placed) (words : List ℕ) → x ≡ record { base = 4294967296 + count * size; words = words }
+new_block : (size count arenas : ℕ) (x : Placed) (words : List ℕ)
+    → x ≡ record { base = 4294967296 + count * size; words = words }
     → words ≡ replicate size 0 → count ≡ arenas → x ≡ zeros_at (4294967296 + arenas * size) size
 new_block size count arenas x words e f g =
     e ∙ ap (λ (ws : List ℕ). record { base = 4294967296 + count * size; words = ws }) f

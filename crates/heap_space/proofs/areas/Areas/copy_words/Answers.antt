@@ -13,9 +13,11 @@ apart : (from to n j k : ℕ) → (from + n ≤ to) ⊎ (to + n ≤ from) → j 
 apart from to n j k h l m e = omega (arith, h, l, m, e)
 
 -- one more word is copied
-copied : (now old new : Memory) (source target : Seat) (from to n k x : ℕ) → CopiesWords now old source target from to n k → k < n
+copied : (now old new : Memory) (source target : Seat) (from to n k x : ℕ)
+    → CopiesWords now old source target from to n k → k < n
     → (from + n ≤ to) ⊎ (to + n ≤ from) → x ≡ word_at now.blocks (from + k)
-    → new ≡ record now { blocks = with_word now.blocks (to + k) x } → CopiesWords new old source target from to n (k + 1)
+    → new ≡ record now { blocks = with_word now.blocks (to + k) x }
+    → CopiesWords new old source target from to n (k + 1)
 copied now old new source target from to n k x i l far read written =
     let next : List Placed = with_word now.blocks (to + k) x in
     let old_word : x ≡ word_at old.blocks (from + k) = read ∙ i.source_words k l in
@@ -36,13 +38,17 @@ returns-then-n-eq0 c =
     ap (λ (ps : List Placed). record old { blocks = ps }) (sym none)
 
 -- the seat of place number k
-source_seat : (now old : Memory) (source target : Seat) (from to n k : ℕ) (seat : Seat) → CopiesWords now old source target from to n k → k < n
-    → seat ≡ record { block = source.block; offset = source.offset + k } → IsSeat now.blocks (from + k) seat.block seat.offset
+source_seat : (now old : Memory) (source target : Seat) (from to n k : ℕ) (seat : Seat)
+    → CopiesWords now old source target from to n k → k < n
+    → seat ≡ record { block = source.block; offset = source.offset + k }
+    → IsSeat now.blocks (from + k) seat.block seat.offset
 source_seat now old source target from to n k seat i l e =
     subst (λ (t : Seat). IsSeat now.blocks (from + k) t.block t.offset) (sym e) (i.source_seats k l)
 
-target_seat : (now old : Memory) (source target : Seat) (from to n k : ℕ) (seat : Seat) → CopiesWords now old source target from to n k → k < n
-    → seat ≡ record { block = target.block; offset = target.offset + k } → IsSeat now.blocks (to + k) seat.block seat.offset
+target_seat : (now old : Memory) (source target : Seat) (from to n k : ℕ) (seat : Seat)
+    → CopiesWords now old source target from to n k → k < n
+    → seat ≡ record { block = target.block; offset = target.offset + k }
+    → IsSeat now.blocks (to + k) seat.block seat.offset
 target_seat now old source target from to n k seat i l e =
     subst (λ (t : Seat). IsSeat now.blocks (to + k) t.block t.offset) (sym e) (i.target_seats k l)
 

@@ -6,7 +6,8 @@ use Rattle.heap_space.proofs.space.Space.read.Goals as goal
 
 pub read-requires : goal.read-requires
 read-requires c =
-    sym (has-full c.self.inside.areas.blocks c.args.a) ∙ ap (λ (m : Memory). has m.blocks c.args.a) c.self.view_is ∙ c.requires
+    sym (has-full c.self.inside.areas.blocks c.args.a) ∙ ap (λ (m : Memory). has m.blocks c.args.a) c.self.view_is
+    ∙ c.requires
 
 pub returns : goal.returns
 returns c =

@@ -7,7 +7,8 @@ use Rattle.heap_space.proofs.space.Space.write.Goals as goal
 
 pub write-requires : goal.write-requires
 write-requires c =
-    sym (has-full c.self.inside.areas.blocks c.args.a) ∙ ap (λ (m : Memory). has m.blocks c.args.a) c.self.view_is ∙ c.requires
+    sym (has-full c.self.inside.areas.blocks c.args.a) ∙ ap (λ (m : Memory). has m.blocks c.args.a) c.self.view_is
+    ∙ c.requires
 
 pub returns : goal.returns
 returns c =
