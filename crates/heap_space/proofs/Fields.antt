@@ -1,5 +1,5 @@
 -- The fields of `Areas` hold its memory: where each place has its word, and what each change of a field does.
-use Rattle.std.proofs.Common.{◌≡◌, ◌≢◌, ℕ, suc, ◌+◌, ◌-◌, ◌*◌, ◌/◌, ◌%◌, ◌^◌, ◌<◌, ◌≤◌, true, false, ◌||◌, List, [], ◌∷◌, ◌++◌, length, set, get_or, map, replicate, refl, sym, ap, ◌∙◌, subst, arith, length-append, length-set, append_assoc, append-nil}
+use Rattle.std.proofs.Common.{◌≡◌, ◌≢◌, ℕ, suc, ◌+◌, ◌-◌, ◌*◌, ◌/◌, ◌%◌, ◌^◌, ◌<◌, ◌≤◌, true, false, List, [], ◌∷◌, ◌++◌, length, set, get_or, map, sym, ap, ◌∙◌, subst, arith, length-append, length-set, append_assoc, append-nil}
 use Rattle.std.proofs.lemmas.List.{set-append_left, set-append_right}
 use lib.ListN.{length-replicate}
 use Rattle.std.specs.Prelude.{slice_index, nat_lt}
@@ -7,10 +7,10 @@ use Rattle.std.specs.Vec.{with_item}
 use Rattle.std.specs.declared.vec.Vec.{Vec}
 use Rattle.std.specs.declared.alloc.Global.{Global}
 use Rattle.heap_space.specs.declared.areas.Areas.TheInside.{Inside}
-use Rattle.heap_space.specs.Places.{Placed, covers, end_of, has, word_at, with_word, zeros_at, with_block, begins, is_base, RiseTo}
+use Rattle.heap_space.specs.Places.{Placed, covers, end_of, has, word_at, with_word, zeros_at, with_block, is_base, RiseTo}
 use Rattle.heap_space.specs.Memory.{Memory, with_arena, with_large}
 use Rattle.heap_space.specs.Order.{IsInOrder}
-use Rattle.heap_space.specs.Seats.{AreArenas, AreLarges, IsSeat, full_blocks, seen, emptied, with_emptied}
+use Rattle.heap_space.specs.Seats.{AreArenas, IsSeat, full_blocks, seen, emptied, with_emptied}
 use Rattle.heap_space.specs.Areas.{nursery_block, memory_of, HasAreas}
 use Rattle.heap_space.proofs.Blocks.{covers-inside, covers-above, is_base-has}
 use Rattle.heap_space.proofs.Rising.{has-below, has-above, has-append, is_base-append, rise_le, rise-more, rise-less, rise-append, arenas-rise, arenas-append, arenas-set, rise-set, with_word-index, with_block-between}
@@ -41,9 +41,6 @@ module _ (s : Inside) (i : HasAreas s) where
     omega arith,
     rise-less (end_of (nursery_of s)) 4294967296 s.next_large (arenas_of s ++ larges_of s) i.nursery_ends rest-rises,
   )
-
-  pub are-larges : AreLarges (larges_of s)
-  are-larges = (s.next_large, i.larges)
 
   -- nothing lies where the next arena goes
   next-is-free : (b : ℕ) → (memory_of s).next_arena ≤ b → b < 1099511627776 → has (memory_of s).blocks b ≡ false

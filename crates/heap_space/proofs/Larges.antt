@@ -1,13 +1,12 @@
 -- The list of large blocks: which one has a place, and what is left when one of them is emptied or the empty ones go.
-use Rattle.std.proofs.Common.{◌≡◌, ℕ, zero, suc, ◌+◌, ◌-◌, ◌<◌, ◌≤◌, true, false, ◌||◌, List, [], ◌∷◌, ◌++◌, length, set, get_or, map, filter, refl, sym, ap, ◌∙◌, subst, arith, inl, inr}
+use Rattle.std.proofs.Common.{◌≡◌, ℕ, zero, suc, ◌-◌, ◌<◌, ◌≤◌, true, false, List, [], ◌∷◌, ◌++◌, length, set, get_or, map, refl, sym, ap, ◌∙◌, subst, arith, inl, inr}
 use Rattle.std.proofs.lemmas.Bool.{cases_Bool, cases_eq, true≢false}
 use Rattle.std.proofs.lemmas.Bool.Decides.{nat_tests}
 use Rattle.std.proofs.lemmas.List.{map-append}
-use Rattle.std.specs.Prelude.{nat_le, nat_lt}
 use Rattle.heap_space.specs.Places.{Placed, covers, end_of, has, begins, is_base, RiseTo}
-use Rattle.heap_space.specs.Seats.{PartsAt, AreLarges, has_words, full_blocks, emptied}
-use Rattle.heap_space.proofs.Blocks.{covers-inside, covers-above, begins-covers, is_base-has}
-use Rattle.heap_space.proofs.Rising.{has-within, has-below, has-above, base-from, blocks-apart, at_index, rise-less}
+use Rattle.heap_space.specs.Seats.{PartsAt, has_words, full_blocks, emptied}
+use Rattle.heap_space.proofs.Blocks.{covers-inside, covers-above, is_base-has}
+use Rattle.heap_space.proofs.Rising.{has-within, has-below, base-from, blocks-apart, at_index, rise-less}
 use Rattle.heap_space.proofs.Seats.{both-ways}
 
 -- which block has a place

@@ -1,15 +1,15 @@
 -- Laws of memories whose blocks lie in order, for callers: that each call keeps the order, and what it does
 -- to `has` and `word_at` then.
-use Rattle.std.proofs.Common.{◌≡◌, ℕ, suc, ◌+◌, ◌-◌, ◌^◌, ◌<◌, ◌≤◌, true, false, ◌&&◌, ◌||◌, not, List, [], ◌∷◌, length, replicate, get_or, refl, sym, ap, ◌∙◌, arith, inl, inr}
-use Rattle.std.proofs.lemmas.Bool.{cases_Bool, cases_lt}
+use Rattle.std.proofs.Common.{◌≡◌, ℕ, ◌+◌, ◌-◌, ◌<◌, ◌≤◌, true, false, ◌&&◌, ◌||◌, not, List, [], ◌∷◌, refl, sym, ap, ◌∙◌, arith, inl, inr}
+use Rattle.std.proofs.lemmas.Bool.{cases_Bool}
 use Rattle.std.proofs.lemmas.Bool.Decides.{nat_tests}
 use Rattle.std.proofs.lemmas.List.{get_or-replicate}
 use Rattle.heap_space.specs.Runs.{within}
-use Rattle.heap_space.specs.Places.{Placed, covers, end_of, has, word_at, with_word, with_run, zeros_at, with_block, lies_in_one, is_base, length_at, without_block, begins, RiseTo}
+use Rattle.heap_space.specs.Places.{Placed, covers, has, word_at, with_word, with_run, zeros_at, with_block, lies_in_one, is_base, length_at, without_block, begins}
 use Rattle.heap_space.specs.Memory.{Memory, fresh_memory, with_arena, with_large, without_large}
 use Rattle.heap_space.specs.Order.{IsInOrder}
-use Rattle.heap_space.proofs.Blocks.{covers-inside, covers-above, covers-below, length-zeros_at, has-with_word, has-with_run, has-with_block, is_base-with_block, length_at-with_block, word_at-with_block, word_at-new, word_at-none, is_base-has, length_at-new}
-use Rattle.heap_space.proofs.Rising.{has-above, has-below, has-within, rise_le, rise-more, rise-less, rise-append, rise-with_word, rise-with_run, rise-without, has-without, word_at-kept}
+use Rattle.heap_space.proofs.Blocks.{covers-inside, covers-above, length-zeros_at, has-with_word, has-with_run, has-with_block, is_base-with_block, length_at-with_block, word_at-with_block, word_at-new, word_at-none, is_base-has, length_at-new}
+use Rattle.heap_space.proofs.Rising.{has-above, rise-with_word, rise-with_run, rise-without, has-without, word_at-kept}
 
 -- each call keeps the order
 
@@ -161,3 +161,6 @@ pub lies-length_at : (ps : List Placed) (a j n : ℕ) → is_base ps a ≡ true 
     → lies_in_one ps (a + j) n ≡ true
 lies-length_at [] a j n h l = grind arith
 lies-length_at (p ∷ ps) a j n h l = grind (arith, nat_tests, lies-length_at ps a j n)
+
+-- what a caller uses that keeps the order of its blocks over several calls
+pub ruleset orders = (ordered-with_word, ordered-with_run, ordered-without_large)

@@ -1,10 +1,10 @@
 -- A memory and what is seen of it: its emptied blocks hold no place, so that nothing depends on them.
-use Rattle.std.proofs.Common.{◌≡◌, ℕ, zero, suc, ◌+◌, ◌-◌, ◌<◌, ◌≤◌, true, false, List, [], ◌∷◌, length, map, refl, sym, ap, ◌∙◌, arith, inl, inr}
+use Rattle.std.proofs.Common.{◌≡◌, ℕ, zero, suc, ◌+◌, ◌<◌, true, List, [], ◌∷◌, length, map, refl, sym, ap, ◌∙◌, arith, inl, inr}
 use Rattle.std.proofs.lemmas.Bool.{cases_Bool}
 use Rattle.std.proofs.lemmas.Bool.Decides.{nat_tests}
 use Rattle.std.specs.Prelude.{nat_lt}
 use Rattle.heap_space.specs.Places.{Placed, end_of, has, word_at, written, with_word, lies_in_one, run_at, overwritten, with_run, zeros_at, with_block, is_base, without_block, RiseTo}
-use Rattle.heap_space.specs.Memory.{Memory, fresh_memory, with_arena, with_large, without_large}
+use Rattle.heap_space.specs.Memory.{Memory, with_arena, with_large, without_large}
 use Rattle.heap_space.specs.Order.{IsInOrder}
 use Rattle.heap_space.specs.Seats.{has_words, full_blocks, seen, emptied, with_emptied}
 use Rattle.heap_space.proofs.Blocks.{length-written, length-overwritten, length-zeros_at}
@@ -63,12 +63,6 @@ full-emptied [] a = refl
 full-emptied (p ∷ ps) a = grind (arith, nat_tests, full-emptied ps a)
 
 -- the same of memories
-
-pub seen-fresh : (nursery arena_words : ℕ) → 0 < nursery
-    → seen (fresh_memory nursery arena_words) ≡ fresh_memory nursery arena_words
-seen-fresh nursery arena_words l =
-    let e = length-zeros_at 1 nursery in
-    let t : has_words (zeros_at 1 nursery) ≡ true = grind (arith, nat_tests) in rw t refl
 
 pub seen-with_arena : (m : Memory) → IsInOrder (with_arena m) → seen (with_arena m) ≡ with_arena (seen m)
 seen-with_arena m o =

@@ -1,4 +1,4 @@
-use Rattle.std.proofs.Common.{◌∙◌, arith}
+use Rattle.std.proofs.Common.{◌∙◌}
 use Rattle.heap_space.proofs.Larges.{parted_some, covers-parted}
 use Rattle.heap_space.proofs.areas.large_index.Goals as goal
 

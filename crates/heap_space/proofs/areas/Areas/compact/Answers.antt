@@ -1,6 +1,5 @@
 use Rattle.std.proofs.Common.{rules, of_calls, ◌∙◌, ap}
 use Rattle.std.proofs.lemmas.Fn.{filter_same}
-use Rattle.heap_space.specs.Memory.{Memory}
 use Rattle.heap_space.specs.Seats.{has_words, seen}
 use Rattle.heap_space.proofs.Fields.{keep-full}
 use Rattle.heap_space.proofs.areas.Areas.compact.Goals as goal
