@@ -3,8 +3,8 @@ use Rattle.std.specs.Prelude.{◌≡◌, ℕ, ◌^◌, ◌<◌, ◌≤◌, false
 use Rattle.heap_space.specs.Places.{has, RiseTo}
 use Rattle.heap_space.specs.Memory.{Memory}
 
--- the blocks lie one after another: those below 2 ^ 32, the arenas below 2 ^ 40, the large ones below 2 ^ 63;
--- and nothing lies where the next arenas and the next large blocks come
+-- the blocks lie one after another from place 1 on, below the place of the next large one,
+-- and nothing lies from the place of the next arena up to 2 ^ 40, where the large ones begin
 pub record IsInOrder (m : Memory) : Type 0 where
   pub rises : RiseTo 1 m.blocks m.next_large
   pub free : (b : ℕ) → m.next_arena ≤ b → b < 1099511627776 → has m.blocks b ≡ false

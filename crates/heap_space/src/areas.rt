@@ -131,6 +131,7 @@ impl Areas {
     }
 
     /// The word at a.
+    #[inline]
     pub(crate) fn read(&self, a: u64) -> u64
         requires { IsTrue (has self.now.blocks a) }
         ensures { result ≡ word_at self.now.blocks a }
@@ -140,6 +141,7 @@ impl Areas {
     }
 
     /// The word at a is v from then on, and every other word stays.
+    #[inline]
     pub(crate) fn write(&mut self, a: u64, v: u64)
         requires { IsTrue (has self.old.blocks a) }
         ensures { self.new ≡ record self.old { blocks = with_word self.old.blocks a v } }
@@ -167,6 +169,7 @@ impl Areas {
     }
 
     /// Whether a lies in a block.
+    #[inline]
     pub(crate) fn has(&self, a: u64) -> bool
         ensures { result ≡ has self.now.blocks a }
     {
@@ -191,6 +194,7 @@ impl Areas {
     }
 
     // The seat of a place.
+    #[inline]
     fn seat(&self, a: u64) -> Seat
         requires { IsTrue (has self.now.blocks a) }
         ensures { IsSeat self.now.blocks a result.block result.offset }
@@ -216,6 +220,7 @@ impl Areas {
     }
 
     // The word at a seat.
+    #[inline]
     fn word(&self, seat: Seat) -> u64
         requires { (a : ℕ) × IsSeat self.now.blocks a seat.block seat.offset }
         ensures { (a : ℕ) → IsSeat self.now.blocks a seat.block seat.offset → result ≡ word_at self.now.blocks a }
@@ -231,6 +236,7 @@ impl Areas {
     }
 
     // The word at a seat is v from then on.
+    #[inline]
     fn set_word(&mut self, seat: Seat, v: u64)
         requires { (a : ℕ) × IsSeat self.old.blocks a seat.block seat.offset }
         ensures { (a : ℕ) → IsSeat self.old.blocks a seat.block seat.offset

@@ -32,6 +32,7 @@ impl Located {
     }
 
     /// The place of its first word.
+    #[inline]
     pub(crate) fn base(&self) -> u64
         ensures { result ≡ self.now.base }
     {
@@ -39,6 +40,7 @@ impl Located {
     }
 
     /// The number of its words.
+    #[inline]
     pub(crate) fn len(&self) -> u64
         ensures { result ≡ length self.now.words }
     {
@@ -49,6 +51,7 @@ impl Located {
     }
 
     /// Its word number `offset`.
+    #[inline]
     pub(crate) fn read(&self, offset: usize) -> u64
         requires { offset < length self.now.words }
         ensures { result ≡ slice_index self.now.words offset }
@@ -60,6 +63,7 @@ impl Located {
     }
 
     /// Its word number `offset` is v from then on, and every other word stays.
+    #[inline]
     pub(crate) fn write(&mut self, offset: usize, v: u64)
         requires { offset < length self.old.words }
         ensures { self.new ≡ record self.old { words = slice_set self.old.words offset v } }
