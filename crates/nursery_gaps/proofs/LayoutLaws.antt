@@ -1,11 +1,11 @@
 -- What a request finds in a nursery, and what it leaves there.
-use Rattle.std.proofs.Common.{◌≡◌, ℕ, ◌+◌, ◌-◌, ◌*◌, ◌<◌, ◌≤◌, true, ◌==◌, if◌then◌else◌, List, [], ◌∷◌, ◌++◌, length, take, drop, refl, sym, ap, ◌∙◌, subst, arith, append_assoc, append-nil, length-drop, length-take}
+use Rattle.std.proofs.Common.{◌≡◌, ℕ, ◌+◌, ◌-◌, ◌*◌, ◌<◌, ◌≤◌, true, if◌then◌else◌, List, [], ◌∷◌, ◌++◌, length, take, drop, refl, sym, ap, ◌∙◌, subst, arith, append_assoc, append-nil, length-drop, length-take}
 use Rattle.std.proofs.Math.Seq.{take-length}
 use Rattle.std.proofs.lemmas.Bool.{eq-eqb, ne_eqb, le-ltb}
 use Rattle.std.proofs.lemmas.List.{take-append-drop}
 use Rattle.nursery_gaps.specs.Ranges.{Range, is_free, AreRising, words_between}
 use Rattle.nursery_gaps.specs.Nursery.{Layout, Fits, FitsLowest, gap_at, HandsOut, IsLaidOut}
-use Rattle.nursery_gaps.specs.Gaps.{end_of, next_after, IsFirstGap, HasNoGap}
+use Rattle.nursery_gaps.specs.Gaps.{IsFirstGap, HasNoGap}
 use Rattle.nursery_gaps.proofs.GapLaws.{AreRising_le, AreRising-up, AreRising-both, AreRising-parts, AreRising-words_between, end_of-above, next_after_le}
 use Rattle.nursery_gaps.proofs.FreeLaws.{is_free-both, is_free-parts, is_free-behind, is_free-before, is_free-words_between, passes}
 

@@ -1,15 +1,14 @@
 -- What the contracts of a nursery give to the layers above.
-use Rattle.std.proofs.Common.{◌≡◌, ℕ, zero, suc, ◌+◌, ◌-◌, ◌*◌, ◌<◌, ◌≤◌, Bool, true, false, not, ◌&&◌, ◌==◌, nat_lt, nat_le, if◌then◌else◌, ◌⊎◌, inl, inr, List, [], ◌∷◌, ◌++◌, length, get_or, sum_by, refl, sym, ap, ◌∙◌, subst, arith, append-nil, length-append}
+use Rattle.std.proofs.Common.{◌≡◌, ℕ, zero, suc, ◌+◌, ◌-◌, ◌<◌, ◌≤◌, Bool, true, false, not, ◌&&◌, nat_lt, nat_le, if◌then◌else◌, inl, inr, List, [], ◌∷◌, ◌++◌, length, sum_by, refl, sym, ap, ◌∙◌, subst, arith, append-nil, length-append}
 use Rattle.std.specs.Prelude.{All, AllPairs}
 use Rattle.std.proofs.lemmas.Bool.{cases_lt, cases_eq, lt-ltb, le-ltb, eq-eqb, ne_eqb, and_parts, leb-true, ltb-true}
 use Rattle.std.proofs.lemmas.Bool.Decides.{nat_tests}
 use Rattle.std.proofs.Math.Bool.{and-true}
 use Rattle.std.proofs.lemmas.List.{nil_from_length}
-use Rattle.nursery_gaps.specs.Ranges.{Range, covers, is_free, free_words, AreRising, words_between}
-use Rattle.nursery_gaps.specs.Nursery.{Layout, unused, Fits, FitsLowest, gap_at, HandsOut, IsLaidOut, spare_words}
+use Rattle.nursery_gaps.specs.Ranges.{Range, covers, is_free, AreRising, words_between}
+use Rattle.nursery_gaps.specs.Nursery.{Layout, Fits, FitsLowest, gap_at, HandsOut, IsLaidOut, spare_words}
 use Rattle.nursery_gaps.proofs.GapLaws.{AreRising_le, AreRising-both, AreRising-words_between}
-use Rattle.nursery_gaps.proofs.FreeLaws.{covers-before, covers-behind, covers-within, is_free-append, is_free-words_between}
-use Rattle.nursery_gaps.proofs.LayoutLaws.{IsSplit, layout_of}
+use Rattle.nursery_gaps.proofs.FreeLaws.{is_free-append, is_free-words_between}
 use Rattle.nursery_gaps.proofs.SpareLaws.{spare_words-split}
 
 -- the used ranges lie in the nursery, one after another
@@ -125,6 +124,16 @@ HandsOut-ungapped old new n alone handed =
     let none_below : handed.below ≡ [] = nil_from_length handed.below (omega arith) in
     let none_above : handed.above ≡ [] = nil_from_length handed.above (omega arith) in
     handed.is ∙ rw (none_below, none_above, same, append-nil) refl
+
+pub hands_out-ungapped : (old new : Layout) (n place : ℕ) → old.used ≡ words_between old.gap old.cursor
+    → old.cursor + n ≤ old.words + 1 → FitsLowest old n place → HandsOut old n place new
+    → (place ≡ old.cursor)
+    × (new ≡ record old { used = words_between old.gap (old.cursor + n); cursor = old.cursor + n })
+hands_out-ungapped old new n place alone room lowest handed =
+    let same : place ≡ old.cursor =
+    omega (arith, lowest.fits.reached, lowest.lowest old.cursor (Fits-ungapped old n alone room))
+    in
+    (same, HandsOut-ungapped old new n alone (subst (λ at. HandsOut old n at new) same handed))
 
 -- the words that are spare are those from the cursor on but for the used ranges above it
 pub spare-sum : (layout : Layout) (laid : IsLaidOut layout)

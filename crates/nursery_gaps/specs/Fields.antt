@@ -1,9 +1,10 @@
 -- What holds of the fields of a nursery.
-use Rattle.std.specs.Prelude.{ℕ, ◌+◌, ◌*◌, ◌≤◌, drop, length, vec_len}
+use Rattle.std.specs.Prelude.{◌+◌, ◌*◌, ◌≤◌, drop, vec_len}
 use Rattle.std.specs.Vec.{vec_capacity}
 use Rattle.nursery_gaps.specs.declared.Nursery.TheInside.{Inside}
 use Rattle.nursery_gaps.specs.Ranges.{AreRising}
 
+-- the ranges below the current gap and above the cursor rise, and the lists have room for all that may come
 pub record IsKept (n : Inside) : Type 0 where
   pub least : 16 ≤ n.words
   pub most : n.words ≤ 1048576

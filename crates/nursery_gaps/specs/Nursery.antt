@@ -6,8 +6,8 @@ pub record Layout : Type 0 where
   pub words : ℕ  -- the words of the nursery are 1 up to this one
   pub pins : ℕ  -- how many ranges may be pinned
   pub used : List Range  -- the used ranges, by rising place
-  pub gap : ℕ  -- the place at which the current gap begins
-  pub cursor : ℕ  -- the place from which on words are handed out
+  pub gap : ℕ  -- where the current gap begins, whose words below the cursor were handed out
+  pub cursor : ℕ  -- the place from which on words are looked for
 
 -- a nursery of which nothing is used
 abbrev pub unused : ℕ → ℕ → Layout

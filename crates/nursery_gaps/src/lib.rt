@@ -94,12 +94,8 @@ impl Nursery {
             self.cursor += n;
             return Some(found.place);
         }
-        pass(
-            &mut self.below,
-            self.gap,
-            self.cursor,
-            &ranges[..found.passed],
-        );
+        let passed = &ranges[..found.passed];
+        pass(&mut self.below, self.gap, self.cursor, passed);
         self.passed += found.passed;
         self.gap = found.place;
         self.cursor = found.place + n;

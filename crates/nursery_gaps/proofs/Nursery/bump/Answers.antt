@@ -1,6 +1,6 @@
 use Rattle.std.proofs.Common.{◌+◌, refl, subst, arith}
-use Rattle.nursery_gaps.specs.Nursery.{Fits, FitsLowest, HandsOut, IsLaidOut}
-use Rattle.nursery_gaps.proofs.KeptLaws.{seen, stands-of, above-is, finds-of, Finds-lowest, Finds-fits, finds-none, stays-hands, stays-kept, stays-fits, Leaves-hands_out, Leaves-kept}
+use Rattle.nursery_gaps.specs.Nursery.{Fits, FitsLowest, IsLaidOut}
+use Rattle.nursery_gaps.proofs.KeptLaws.{stands-of, above-is, finds-of, Finds-lowest, Finds-fits, finds-none, stays-hands, stays-kept, stays-fits, Leaves-hands_out, Leaves-kept}
 use Rattle.nursery_gaps.proofs.Nursery.bump.Goals as goal
 
 pub returns-in_err-found-clause-none : goal.returns-in_err-found-clause-none
@@ -18,40 +18,46 @@ overflow_add-self c =
     omega (
       arith,
       stays-fits c.args.n _ _ _ c.self.inside c.if-found-eq0.true
-          (finds-of c.args.n _ _ c.self.inside c.deref.result.now c.self.invariant c.deref.ensures.value c.in_ok-found.ensures.found),
+          (finds-of c.args.n _ _ c.self.inside c.deref.result.now c.self.invariant c.deref.ensures.value
+          c.in_ok-found.ensures.found),
     )
 
 pub returns-then-found-eq0-clause-lowest : goal.returns-then-found-eq0-clause-lowest
 returns-then-found-eq0-clause-lowest c =
     subst (λ layout. FitsLowest layout c.args.n c.in_ok-found.found.place) c.self.view_is
     (Finds-lowest c.args.n _ _ _ c.self.inside c.requires
-    (finds-of c.args.n _ _ c.self.inside c.deref.result.now c.self.invariant c.deref.ensures.value c.in_ok-found.ensures.found))
+    (finds-of c.args.n _ _ c.self.inside c.deref.result.now c.self.invariant c.deref.ensures.value
+    c.in_ok-found.ensures.found))
 
 pub returns-then-found-eq0-clause-handed : goal.returns-then-found-eq0-clause-handed
 returns-then-found-eq0-clause-handed c =
     rw (← c.self.view_is)
     (stays-hands c.args.n _ _ _ c.self.inside c.if-found-eq0.true
-    (finds-of c.args.n _ _ c.self.inside c.deref.result.now c.self.invariant c.deref.ensures.value c.in_ok-found.ensures.found))
+    (finds-of c.args.n _ _ c.self.inside c.deref.result.now c.self.invariant c.deref.ensures.value
+    c.in_ok-found.ensures.found))
 
 pub returns-then-found-eq0-clause-stands : goal.returns-then-found-eq0-clause-stands
 returns-then-found-eq0-clause-stands c =
     stands-of _
     (stays-kept c.args.n _ _ _ c.self.inside c.if-found-eq0.true
-    (finds-of c.args.n _ _ c.self.inside c.deref.result.now c.self.invariant c.deref.ensures.value c.in_ok-found.ensures.found))
+    (finds-of c.args.n _ _ c.self.inside c.deref.result.now c.self.invariant c.deref.ensures.value
+    c.in_ok-found.ensures.found))
 
 pub overflow_add-self-3 : goal.overflow_add-self-3
 overflow_add-self-3 c =
     omega (
       arith,
       Finds-fits c.args.n _ _ _ c.self.inside
-          (finds-of c.args.n _ _ c.self.inside c.deref.result.now c.self.invariant c.deref.ensures.value c.in_ok-found.ensures.found),
+          (finds-of c.args.n _ _ c.self.inside c.deref.result.now c.self.invariant c.deref.ensures.value
+          c.in_ok-found.ensures.found),
     )
 
 pub invariant_of-self-2 : goal.invariant_of-self-2
 invariant_of-self-2 c =
     Leaves-kept c.args.n _ _ _ c.self.inside _
     (record {
-      finds = finds-of c.args.n _ _ c.self.inside c.deref.result.now c.self.invariant c.deref.ensures.value c.in_ok-found.ensures.found;
+      finds = finds-of c.args.n _ _ c.self.inside c.deref.result.now c.self.invariant c.deref.ensures.value
+          c.in_ok-found.ensures.found;
       some = omega arith;
       fields = refl;
       below = c.pass.ensures.items;
@@ -63,7 +69,8 @@ pub returns-clause-lowest : goal.returns-clause-lowest
 returns-clause-lowest c =
     subst (λ layout. FitsLowest layout c.args.n c.in_ok-found.found.place) c.self.view_is
     (Finds-lowest c.args.n _ _ _ c.self.inside c.requires
-    (finds-of c.args.n _ _ c.self.inside c.deref.result.now c.self.invariant c.deref.ensures.value c.in_ok-found.ensures.found))
+    (finds-of c.args.n _ _ c.self.inside c.deref.result.now c.self.invariant c.deref.ensures.value
+    c.in_ok-found.ensures.found))
 
 pub returns-clause-handed : goal.returns-clause-handed
 returns-clause-handed c =
@@ -76,7 +83,8 @@ returns-clause-handed c =
       cursor = c.in_ok-found.found.place + c.args.n;
     })
     (record {
-      finds = finds-of c.args.n _ _ c.self.inside c.deref.result.now c.self.invariant c.deref.ensures.value c.in_ok-found.ensures.found;
+      finds = finds-of c.args.n _ _ c.self.inside c.deref.result.now c.self.invariant c.deref.ensures.value
+          c.in_ok-found.ensures.found;
       some = omega arith;
       fields = refl;
       below = c.pass.ensures.items;
@@ -95,7 +103,8 @@ returns-clause-stands c =
       cursor = c.in_ok-found.found.place + c.args.n;
     })
     (record {
-      finds = finds-of c.args.n _ _ c.self.inside c.deref.result.now c.self.invariant c.deref.ensures.value c.in_ok-found.ensures.found;
+      finds = finds-of c.args.n _ _ c.self.inside c.deref.result.now c.self.invariant c.deref.ensures.value
+          c.in_ok-found.ensures.found;
       some = omega arith;
       fields = refl;
       below = c.pass.ensures.items;

@@ -6,7 +6,8 @@ use Rattle.nursery_gaps.proofs.Nursery.spare.Goals as goal
 
 pub returns : goal.returns
 returns c =
-    let counted = subst (λ ranges. c.free_between.result + sum_by (λ range. range.1) ranges ≡ c.self.inside.words + 1 - c.self.inside.cursor)
+    let counted = subst (λ ranges. c.free_between.result + sum_by (λ range. range.1) ranges
+    ≡ c.self.inside.words + 1 - c.self.inside.cursor)
     (rest-is c.self.inside.pinned.items c.self.inside.passed)
     (rw c.deref.ensures.value at c.free_between.ensures)
     in
