@@ -1,4 +1,4 @@
-use Rattle.std.proofs.Common.{sym, ap, ◌∙◌}
+use Rattle.std.proofs.Common.{ap, ◌∙◌}
 use Rattle.std.specs.FinMap as map
 use Rattle.shadow_ids.proofs.MapLaws.{seen-insert}
 use Rattle.shadow_ids.proofs.Shadows.keep_home.Goals as goal
