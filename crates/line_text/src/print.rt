@@ -1,8 +1,11 @@
 //! The text of a line, appended to a vector of bytes.
 
 ghost use Rattle.std.specs.Prelude.{◌≡◌, ℕ, [], ◌∷◌, ◌++◌, Option, OnOk, OnErr, codes, decimal};
-ghost use Rattle.store_model.specs.Text.{IsProper, words_text, line_text, number_or, age_text, place_text, phase_text, end_text};
+ghost use Rattle.std.specs.List.{All};
+ghost use Rattle.store_model.specs.Text.{IsProper, words_text, line_text, lines_text, number_or, age_text, place_text, phase_text, end_text};
+ghost use Rattle.store_model.specs.declared.line.Line.{Line};
 ghost use Rattle.line_text.specs.Printing.{StartsWith};
+ghost use Rattle.line_text.specs.Spelling.{IsSmall, IsInRange, IsLine};
 
 use itoa::Buffer;
 use std::alloc::AllocError;
@@ -13,16 +16,31 @@ pub fn print_line(l: &Line, out: &mut Vec<u8>) -> Result<(), AllocError>
     requires { IsProper l.now }
     ensures ok { OnOk result (out.new.items ≡ out.old.items ++ line_text l.now) }
     ensures err { OnErr result (StartsWith out.new.items out.old.items) }
+    ensures is_line { IsLine l.now }
+    ensures one_spelling { (other : Line) → IsLine other → words_text other ≡ words_text l.now → other ≡ l.now }
 {
     print_words(l, out)?;
     append(b"\n", out)
 }
 
+/// Appends the texts of lines, one after another. After want of memory the old text stands, with part of theirs behind it.
+pub fn print_lines(lines: &[Line], out: &mut Vec<u8>) -> Result<(), AllocError>
+    requires { All IsProper lines.now }
+    ensures ok { OnOk result (out.new.items ≡ out.old.items ++ lines_text lines.now) }
+    ensures err { OnErr result (StartsWith out.new.items out.old.items) }
+{
+    for line in lines {
+        print_line(line, out)?;
+    }
+    Ok(())
+}
+
 // Appends the text of a line, without its LF.
-#[tactic(auto, unfolding(store_model::specs::Text::words_text))]
+#[tactic(auto, unfolding(store_model::specs::Text::words_text, crate::specs::Spelling::IsInRange))]
 fn print_words(l: &Line, out: &mut Vec<u8>) -> Result<(), AllocError>
     ensures ok { OnOk result (out.new.items ≡ out.old.items ++ words_text l.now) }
     ensures err { OnErr result (StartsWith out.new.items out.old.items) }
+    ensures in_range { IsInRange l.now }
 {
     match *l {
         Line::Born { birth, old } => append_new(birth, old, out),
@@ -101,6 +119,7 @@ fn phase_name(phase: Phase) -> &'static [u8]
 fn append_place(place: Option<u64>, out: &mut Vec<u8>) -> Result<(), AllocError>
     ensures ok { OnOk result (out.new.items ≡ out.old.items ++ (codes "where " ++ place_text place)) }
     ensures err { OnErr result (StartsWith out.new.items out.old.items) }
+    ensures in_range { IsSmall place }
 {
     match place {
         None => append(b"where young", out),
@@ -112,6 +131,7 @@ fn append_place(place: Option<u64>, out: &mut Vec<u8>) -> Result<(), AllocError>
 fn append_birth(front: &[u8], birth: Option<u64>, out: &mut Vec<u8>) -> Result<(), AllocError>
     ensures ok { OnOk result (out.new.items ≡ out.old.items ++ (front.now ++ number_or (codes "nil") birth)) }
     ensures err { OnErr result (StartsWith out.new.items out.old.items) }
+    ensures in_range { IsSmall birth }
 {
     match birth {
         None => append_two_texts(front, b"nil", out),
