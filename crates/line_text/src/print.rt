@@ -1,6 +1,6 @@
 //! The text of a line, appended to a vector of bytes.
 
-ghost use Rattle.std.specs.Prelude.{◌≡◌, ℕ, [], ◌∷◌, ◌++◌, Option, OnOk, OnErr, codes, decimal};
+ghost use Rattle.std.specs.Prelude.{◌≡◌, ◌++◌, OnOk, OnErr, codes, decimal};
 ghost use Rattle.std.specs.List.{All};
 ghost use Rattle.store_model.specs.Text.{IsProper, words_text, line_text, lines_text, number_or, age_text, place_text, phase_text, end_text};
 ghost use Rattle.store_model.specs.declared.line.Line.{Line};
@@ -58,10 +58,8 @@ fn print_words(l: &Line, out: &mut Vec<u8>) -> Result<(), AllocError>
         Line::ToObjIs { birth } => append_birth(b"toobj ", birth, out),
         Line::NextDeadIs { number } => append_structure(b"nextdead ", number, out),
         Line::Dealloc { number } => append_number(b"dealloc ", u64::from(number), out),
-        Line::UsedIs { kept, husks } => append_two_numbers(b"used ", kept, husks, out),
-        Line::MinorDone { settled, vanished } => append_two_numbers(
-            b"minor ", settled, vanished, out,
-        ),
+        Line::UsedIs { kept, husks } => append_numbers(b"used ", kept, husks, out),
+        Line::MinorDone { settled, vanished } => append_numbers(b"minor ", settled, vanished, out),
         Line::Cleared { birth } => append_number(b"cleared ", birth, out),
         Line::Destroyed { birth } => append_number(b"destroyed ", birth, out),
         Line::LinkCut { end } => append_end(end, out),
@@ -69,7 +67,7 @@ fn print_words(l: &Line, out: &mut Vec<u8>) -> Result<(), AllocError>
         Line::Visited { birth } => append_number(b"visited ", birth, out),
         Line::Kept { birth } => append_number(b"kept ", birth, out),
         Line::Freed { birth } => append_number(b"freed ", birth, out),
-        Line::Queued { birth, queue } => append_two_numbers(b"queued ", birth, queue, out),
+        Line::Queued { birth, queue } => append_numbers(b"queued ", birth, queue, out),
         Line::ThresholdIs { words } => append_number(b"threshold ", words, out),
     }
 }
@@ -88,7 +86,7 @@ fn append_end(end: LinkEnd, out: &mut Vec<u8>) -> Result<(), AllocError>
 {
     let number = u64::from(end.number);
     match end.fate {
-        Fate::Unlinked => append_two_numbers(b"unlinked ", number, end.own, out),
+        Fate::Unlinked => append_numbers(b"unlinked ", number, end.own, out),
         Fate::Pending => append_number(b"pending ", number, out),
         Fate::Released => append_number(b"released ", number, out),
     }
@@ -159,7 +157,7 @@ fn append_two_texts(front: &[u8], back: &[u8], out: &mut Vec<u8>) -> Result<(), 
 }
 
 // Appends the words in front, and two numbers with a space between them.
-fn append_two_numbers(
+fn append_numbers(
     front: &[u8],
     first: u64,
     second: u64,
