@@ -1,1 +1,3 @@
 pub mod Printing
+pub mod Spelling
+pub mod Reading

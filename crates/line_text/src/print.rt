@@ -1,8 +1,11 @@
 //! The text of a line, appended to a vector of bytes.
 
-ghost use Rattle.std.specs.Prelude.{◌≡◌, ℕ, [], ◌∷◌, ◌++◌, Option, OnOk, OnErr, codes, decimal};
-ghost use Rattle.store_model.specs.Text.{IsProper, words_text, line_text, number_or, age_text, place_text, phase_text, end_text};
+ghost use Rattle.std.specs.Prelude.{◌≡◌, ◌++◌, OnOk, OnErr, codes, decimal};
+ghost use Rattle.std.specs.List.{All};
+ghost use Rattle.store_model.specs.Text.{IsProper, words_text, line_text, lines_text, number_or, age_text, place_text, phase_text, end_text};
+ghost use Rattle.store_model.specs.declared.line.Line.{Line};
 ghost use Rattle.line_text.specs.Printing.{StartsWith};
+ghost use Rattle.line_text.specs.Spelling.{IsSmall, IsInRange, IsLine};
 
 use itoa::Buffer;
 use std::alloc::AllocError;
@@ -13,16 +16,31 @@ pub fn print_line(l: &Line, out: &mut Vec<u8>) -> Result<(), AllocError>
     requires { IsProper l.now }
     ensures ok { OnOk result (out.new.items ≡ out.old.items ++ line_text l.now) }
     ensures err { OnErr result (StartsWith out.new.items out.old.items) }
+    ensures is_line { IsLine l.now }
+    ensures one_spelling { (other : Line) → IsLine other → words_text other ≡ words_text l.now → other ≡ l.now }
 {
     print_words(l, out)?;
     append(b"\n", out)
 }
 
+/// Appends the texts of lines, one after another. After want of memory the old text stands, with part of theirs behind it.
+pub fn print_lines(lines: &[Line], out: &mut Vec<u8>) -> Result<(), AllocError>
+    requires { All IsProper lines.now }
+    ensures ok { OnOk result (out.new.items ≡ out.old.items ++ lines_text lines.now) }
+    ensures err { OnErr result (StartsWith out.new.items out.old.items) }
+{
+    for line in lines {
+        print_line(line, out)?;
+    }
+    Ok(())
+}
+
 // Appends the text of a line, without its LF.
-#[tactic(auto, unfolding(store_model::specs::Text::words_text))]
+#[tactic(auto, unfolding(store_model::specs::Text::words_text, crate::specs::Spelling::IsInRange))]
 fn print_words(l: &Line, out: &mut Vec<u8>) -> Result<(), AllocError>
     ensures ok { OnOk result (out.new.items ≡ out.old.items ++ words_text l.now) }
     ensures err { OnErr result (StartsWith out.new.items out.old.items) }
+    ensures in_range { IsInRange l.now }
 {
     match *l {
         Line::Born { birth, old } => append_new(birth, old, out),
@@ -40,10 +58,8 @@ fn print_words(l: &Line, out: &mut Vec<u8>) -> Result<(), AllocError>
         Line::ToObjIs { birth } => append_birth(b"toobj ", birth, out),
         Line::NextDeadIs { number } => append_structure(b"nextdead ", number, out),
         Line::Dealloc { number } => append_number(b"dealloc ", u64::from(number), out),
-        Line::UsedIs { kept, husks } => append_two_numbers(b"used ", kept, husks, out),
-        Line::MinorDone { settled, vanished } => append_two_numbers(
-            b"minor ", settled, vanished, out,
-        ),
+        Line::UsedIs { kept, husks } => append_numbers(b"used ", kept, husks, out),
+        Line::MinorDone { settled, vanished } => append_numbers(b"minor ", settled, vanished, out),
         Line::Cleared { birth } => append_number(b"cleared ", birth, out),
         Line::Destroyed { birth } => append_number(b"destroyed ", birth, out),
         Line::LinkCut { end } => append_end(end, out),
@@ -51,7 +67,7 @@ fn print_words(l: &Line, out: &mut Vec<u8>) -> Result<(), AllocError>
         Line::Visited { birth } => append_number(b"visited ", birth, out),
         Line::Kept { birth } => append_number(b"kept ", birth, out),
         Line::Freed { birth } => append_number(b"freed ", birth, out),
-        Line::Queued { birth, queue } => append_two_numbers(b"queued ", birth, queue, out),
+        Line::Queued { birth, queue } => append_numbers(b"queued ", birth, queue, out),
         Line::ThresholdIs { words } => append_number(b"threshold ", words, out),
     }
 }
@@ -70,7 +86,7 @@ fn append_end(end: LinkEnd, out: &mut Vec<u8>) -> Result<(), AllocError>
 {
     let number = u64::from(end.number);
     match end.fate {
-        Fate::Unlinked => append_two_numbers(b"unlinked ", number, end.own, out),
+        Fate::Unlinked => append_numbers(b"unlinked ", number, end.own, out),
         Fate::Pending => append_number(b"pending ", number, out),
         Fate::Released => append_number(b"released ", number, out),
     }
@@ -101,6 +117,7 @@ fn phase_name(phase: Phase) -> &'static [u8]
 fn append_place(place: Option<u64>, out: &mut Vec<u8>) -> Result<(), AllocError>
     ensures ok { OnOk result (out.new.items ≡ out.old.items ++ (codes "where " ++ place_text place)) }
     ensures err { OnErr result (StartsWith out.new.items out.old.items) }
+    ensures in_range { IsSmall place }
 {
     match place {
         None => append(b"where young", out),
@@ -112,6 +129,7 @@ fn append_place(place: Option<u64>, out: &mut Vec<u8>) -> Result<(), AllocError>
 fn append_birth(front: &[u8], birth: Option<u64>, out: &mut Vec<u8>) -> Result<(), AllocError>
     ensures ok { OnOk result (out.new.items ≡ out.old.items ++ (front.now ++ number_or (codes "nil") birth)) }
     ensures err { OnErr result (StartsWith out.new.items out.old.items) }
+    ensures in_range { IsSmall birth }
 {
     match birth {
         None => append_two_texts(front, b"nil", out),
@@ -139,7 +157,7 @@ fn append_two_texts(front: &[u8], back: &[u8], out: &mut Vec<u8>) -> Result<(), 
 }
 
 // Appends the words in front, and two numbers with a space between them.
-fn append_two_numbers(
+fn append_numbers(
     front: &[u8],
     first: u64,
     second: u64,
