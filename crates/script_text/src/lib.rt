@@ -14,3 +14,6 @@ mod words;
 pub use commands::print_command;
 pub use parse::parse_line;
 pub use store_model::{BadLine, Command, Item};
+
+#[cfg(test)]
+mod tests;
