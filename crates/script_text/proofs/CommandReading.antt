@@ -1,15 +1,14 @@
 -- The line of a command in range is read as that command.
-use Rattle.std.proofs.Common.{◌≡◌, ℕ, ◌^◌, ◌<◌, ◌≤◌, Bool, true, false, List, [], ◌∷◌, Result, Ok, Err, refl, sym, ap, ◌∙◌, arith}
-use Rattle.std.specs.Prelude.{decimal, nat_lt, ◌||◌, if◌then◌else◌, codes}
+use Rattle.std.proofs.Common.{◌≡◌, ℕ, ◌^◌, ◌<◌, Bool, true, false, List, [], ◌∷◌, Result, Ok, refl, sym, ap, ◌∙◌, arith}
+use Rattle.std.specs.Prelude.{decimal, ◌||◌, codes}
 use Rattle.std.proofs.lemmas.Bool.{or_parts, ltb-false}
 use Rattle.store_model.specs.declared.command.Command.{Command}
 use Rattle.store_model.specs.declared.command.Command.TheVariants.{NewFixed, NewArray, NewWeak, Put, Get, Link, Load, CopyRefs, MoveRoot, DropRoot, Same, Ident, Hash, Place, Pin, Unpin, Deref, Register, NextFinal, MakeLink, Inc, Dec, Count, FromObj, ToObj, NextDead, Minor, Step, Collect, Used}
-use Rattle.store_model.specs.declared.item.Item.{Item}
 use Rattle.store_model.specs.declared.item.Item.TheVariants.{Command as CommandItem}
 use Rattle.store_model.specs.declared.item.BadLine.{BadLine}
 use Rattle.store_model.specs.Range.{is_above_ids, is_above_items, is_above_counts, is_above}
-use Rattle.store_model.specs.Numbers.{◌>>=◌, one_number, two_numbers, three_numbers, five_numbers}
-use Rattle.store_model.specs.CommandGrammar.{in_range, no_numbers, with_one, with_two, with_three, new_tail, new_form, copy_form, link_form, kind_word, structure_form, slot_form, command_form}
+use Rattle.store_model.specs.Numbers.{◌>>=◌}
+use Rattle.store_model.specs.CommandGrammar.{in_range, no_numbers, with_one, with_two, with_three, new_form, copy_form, link_form, kind_word, structure_form, slot_form, command_form}
 use Rattle.store_model.specs.Grammar.{as_item, form_of, item_of}
 use Rattle.store_model.specs.ItemText.{joined, decimals, command_words, link_word, light_word}
 use Rattle.store_model.specs.ItemLine.{StoresWord, IsCommandInRange}
@@ -19,14 +18,14 @@ use Rattle.script_text.proofs.ReadWords.{number_word-decimal, one_number-decimal
 use Rattle.script_text.proofs.Joined.{are_words, is_keyword, item_of-joined}
 
 -- a number that is not above the greatest of its place has at most 64 bits
-pub id : (n : ℕ) → is_above_ids n ≡ false → n < 2 ^ 64
-id n h = omega (arith, ltb-false 65535 n h)
+pub id_small : (n : ℕ) → is_above_ids n ≡ false → n < 2 ^ 64
+id_small n h = omega (arith, ltb-false 65535 n h)
 
-items : (n : ℕ) → is_above_items n ≡ false → n < 2 ^ 64
-items n h = omega (arith, ltb-false 16777216 n h)
+item_small : (n : ℕ) → is_above_items n ≡ false → n < 2 ^ 64
+item_small n h = omega (arith, ltb-false 16777216 n h)
 
-count : (n : ℕ) → is_above_counts n ≡ false → n < 2 ^ 64
-count n h = omega (arith, ltb-false 4294967295 n h)
+count_small : (n : ℕ) → is_above_counts n ≡ false → n < 2 ^ 64
+count_small n h = omega (arith, ltb-false 4294967295 n h)
 
 in_range-below : (c : Command) → is_above c ≡ false → in_range c ≡ Ok c
 in_range-below c h = rw h refl
@@ -39,52 +38,52 @@ read_by : (word : List ℕ) (words : List (List ℕ)) (read : Result Command Bad
     → form_of (word ∷ words) ≡ (read >>= as_item) → read ≡ Ok c → ReadsCommand (word ∷ words) c
 read_by word words read c key are form is = record { reads = item_of-joined word words key are ∙ form ∙ ap (λ r. r >>= as_item) is }
 
-none : (word : List ℕ) (c : Command) → is_keyword word ≡ true → form_of (word ∷ []) ≡ (no_numbers c [] >>= as_item)
+reads_bare : (word : List ℕ) (c : Command) → is_keyword word ≡ true → form_of (word ∷ []) ≡ (no_numbers c [] >>= as_item)
     → is_above c ≡ false → ReadsCommand (word ∷ []) c
-none word c key form below = read_by word [] (no_numbers c []) c key refl form (in_range-below c below)
+reads_bare word c key form below = read_by word [] (no_numbers c []) c key refl form (in_range-below c below)
 
-one : (word : List ℕ) (f : ℕ → Command) (a : ℕ) → is_keyword word ≡ true → ((words : List (List ℕ)) → form_of (word ∷ words) ≡ (with_one f words >>= as_item))
+reads_one : (word : List ℕ) (f : ℕ → Command) (a : ℕ) → is_keyword word ≡ true → ((words : List (List ℕ)) → form_of (word ∷ words) ≡ (with_one f words >>= as_item))
     → is_above (f a) ≡ false → a < 2 ^ 64 → ReadsCommand (word ∷ decimals (a ∷ [])) (f a)
-one word f a key form below small =
+reads_one word f a key form below small =
     read_by word (decimals (a ∷ [])) (with_one f (decimals (a ∷ []))) (f a) key (rw (is_word-decimal a small) refl) (form (decimals (a ∷ [])))
     (rw (one_number-decimals a small) (in_range-below (f a) below))
 
-two : (word : List ℕ) (f : ℕ → ℕ → Command) (a b : ℕ) → is_keyword word ≡ true
+reads_two : (word : List ℕ) (f : ℕ → ℕ → Command) (a b : ℕ) → is_keyword word ≡ true
     → ((words : List (List ℕ)) → form_of (word ∷ words) ≡ (with_two f words >>= as_item))
     → is_above (f a b) ≡ false → a < 2 ^ 64 → b < 2 ^ 64 → ReadsCommand (word ∷ decimals (a ∷ b ∷ [])) (f a b)
-two word f a b key form below first next =
+reads_two word f a b key form below first next =
     read_by word (decimals (a ∷ b ∷ [])) (with_two f (decimals (a ∷ b ∷ []))) (f a b) key (rw (is_word-decimal a first, is_word-decimal b next) refl)
     (form (decimals (a ∷ b ∷ []))) (rw (two_numbers-decimals a b first next) (in_range-below (f a b) below))
 
-three : (word : List ℕ) (f : ℕ → ℕ → ℕ → Command) (a b c : ℕ) → is_keyword word ≡ true
+reads_three : (word : List ℕ) (f : ℕ → ℕ → ℕ → Command) (a b c : ℕ) → is_keyword word ≡ true
     → ((words : List (List ℕ)) → form_of (word ∷ words) ≡ (with_three f words >>= as_item))
     → is_above (f a b c) ≡ false → a < 2 ^ 64 → b < 2 ^ 64 → c < 2 ^ 64 → ReadsCommand (word ∷ decimals (a ∷ b ∷ c ∷ [])) (f a b c)
-three word f a b c key form below first next last =
+reads_three word f a b c key form below first next last =
     read_by word (decimals (a ∷ b ∷ c ∷ [])) (with_three f (decimals (a ∷ b ∷ c ∷ []))) (f a b c) key
     (rw (is_word-decimal a first, is_word-decimal b next, is_word-decimal c last) refl)
     (form (decimals (a ∷ b ∷ c ∷ []))) (rw (three_numbers-decimals a b c first next last) (in_range-below (f a b c) below))
 
 -- a command with the numbers of two slots, queues or structures
-two_ids : (word : List ℕ) (f : ℕ → ℕ → Command) (a b : ℕ) → is_keyword word ≡ true
+reads_two_ids : (word : List ℕ) (f : ℕ → ℕ → Command) (a b : ℕ) → is_keyword word ≡ true
     → ((words : List (List ℕ)) → form_of (word ∷ words) ≡ (with_two f words >>= as_item)) → is_above (f a b) ≡ (is_above_ids a || is_above_ids b)
     → is_above (f a b) ≡ false → ReadsCommand (word ∷ decimals (a ∷ b ∷ [])) (f a b)
-two_ids word f a b key form above below =
+reads_two_ids word f a b key form above below =
     let p = or_parts (is_above_ids a) (is_above_ids b) (sym above ∙ below) in
-    two word f a b key form below (id a p.0) (id b p.1)
+    reads_two word f a b key form below (id_small a p.0) (id_small b p.1)
 
 -- `new R T` and `new R T L`
-new_fixed : (root type_id : ℕ) → is_above (NewFixed root type_id) ≡ false → root < 2 ^ 64 → type_id < 2 ^ 64
+reads_new_fixed : (root type_id : ℕ) → is_above (NewFixed root type_id) ≡ false → root < 2 ^ 64 → type_id < 2 ^ 64
     → ReadsCommand (codes "new" ∷ decimals (root ∷ type_id ∷ [])) (NewFixed root type_id)
 unfolding form_of command_form new_form
-new_fixed root type_id below first next =
+reads_new_fixed root type_id below first next =
     let words = decimals (root ∷ type_id ∷ []) in
     read_by (codes "new") words (new_form words) (NewFixed root type_id) refl (rw (is_word-decimal root first, is_word-decimal type_id next) refl) refl
     (rw (number_word-decimal root (decimals (type_id ∷ [])) first, number_word-decimal type_id [] next) (in_range-below (NewFixed root type_id) below))
 
-new_array : (root type_id len : ℕ) → is_above (NewArray root type_id len) ≡ false → root < 2 ^ 64 → type_id < 2 ^ 64 → len < 2 ^ 64
+reads_new_array : (root type_id len : ℕ) → is_above (NewArray root type_id len) ≡ false → root < 2 ^ 64 → type_id < 2 ^ 64 → len < 2 ^ 64
     → ReadsCommand (codes "new" ∷ decimals (root ∷ type_id ∷ len ∷ [])) (NewArray root type_id len)
 unfolding form_of command_form new_form
-new_array root type_id len below first next last =
+reads_new_array root type_id len below first next last =
     let words = decimals (root ∷ type_id ∷ len ∷ []) in
     read_by (codes "new") words (new_form words) (NewArray root type_id len) refl
     (rw (is_word-decimal root first, is_word-decimal type_id next, is_word-decimal len last) refl) refl
@@ -95,10 +94,10 @@ new_array root type_id len below first next last =
     ) (in_range-below (NewArray root type_id len) below))
 
 -- `copyrefs R I S J M`
-copy_refs : (a b c d e : ℕ) → is_above (CopyRefs a b c d e) ≡ false → a < 2 ^ 64 → b < 2 ^ 64 → c < 2 ^ 64 → d < 2 ^ 64 → e < 2 ^ 64
+reads_copy : (a b c d e : ℕ) → is_above (CopyRefs a b c d e) ≡ false → a < 2 ^ 64 → b < 2 ^ 64 → c < 2 ^ 64 → d < 2 ^ 64 → e < 2 ^ 64
     → ReadsCommand (codes "copyrefs" ∷ decimals (a ∷ b ∷ c ∷ d ∷ e ∷ [])) (CopyRefs a b c d e)
 unfolding form_of command_form copy_form
-copy_refs a b c d e below first second third fourth fifth =
+reads_copy a b c d e below first second third fourth fifth =
     let words = decimals (a ∷ b ∷ c ∷ d ∷ e ∷ []) in
     read_by (codes "copyrefs") words (copy_form words) (CopyRefs a b c d e) refl
     (rw (is_word-decimal a first, is_word-decimal b second, is_word-decimal c third, is_word-decimal d fourth, is_word-decimal e fifth) refl) refl
@@ -122,11 +121,11 @@ form_of-link true words = refl
 form_of-link false words = refl
 
 -- `plink C R K N` and `olink C R K N`
-make_link : (p : Bool) (number root : ℕ) (light : Bool) (own : ℕ) → is_above (MakeLink p number root light own) ≡ false
+reads_link : (p : Bool) (number root : ℕ) (light : Bool) (own : ℕ) → is_above (MakeLink p number root light own) ≡ false
     → number < 2 ^ 64 → root < 2 ^ 64 → own < 2 ^ 64
     → ReadsCommand (link_word p ∷ decimal number ∷ decimal root ∷ light_word light ∷ decimal own ∷ []) (MakeLink p number root light own)
 unfolding link_form
-make_link p number root light own below first next last =
+reads_link p number root light own below first next last =
     let words = decimal number ∷ decimal root ∷ light_word light ∷ decimal own ∷ [] in
     read_by (link_word p) words (link_form p words) (MakeLink p number root light own) (is_keyword-link p)
     (rw (is_word-decimal number first, is_word-decimal root next, is_word-light light, is_word-decimal own last) refl) (form_of-link p words)
@@ -142,60 +141,60 @@ reads : (c : Command) → is_above c ≡ false → StoresWord c → ReadsCommand
 unfolding is_above command_words form_of command_form slot_form structure_form
 reads (NewFixed root type_id) below stored =
     let p = or_parts (is_above_ids root) (is_above_ids type_id) below in
-    new_fixed root type_id below (id root p.0) (id type_id p.1)
+    reads_new_fixed root type_id below (id_small root p.0) (id_small type_id p.1)
 reads (NewArray root type_id len) below stored =
     let p = or_parts (is_above_ids root) (is_above_ids type_id || is_above_items len) below in
     let q = or_parts (is_above_ids type_id) (is_above_items len) p.1 in
-    new_array root type_id len below (id root p.0) (id type_id q.0) (items len q.1)
+    reads_new_array root type_id len below (id_small root p.0) (id_small type_id q.0) (item_small len q.1)
 reads (NewWeak root type_id target) below stored =
     let p = or_parts (is_above_ids root) (is_above_ids type_id || is_above_ids target) below in
     let q = or_parts (is_above_ids type_id) (is_above_ids target) p.1 in
-    three (codes "weak") NewWeak root type_id target refl (λ words. refl) below (id root p.0) (id type_id q.0) (id target q.1)
+    reads_three (codes "weak") NewWeak root type_id target refl (λ words. refl) below (id_small root p.0) (id_small type_id q.0) (id_small target q.1)
 reads (Put root item value) below stored =
     let p = or_parts (is_above_ids root) (is_above_items item) below in
-    three (codes "put") Put root item value refl (λ words. refl) below (id root p.0) (items item p.1) stored
+    reads_three (codes "put") Put root item value refl (λ words. refl) below (id_small root p.0) (item_small item p.1) stored
 reads (Get root item) below stored =
     let p = or_parts (is_above_ids root) (is_above_items item) below in
-    two (codes "get") Get root item refl (λ words. refl) below (id root p.0) (items item p.1)
+    reads_two (codes "get") Get root item refl (λ words. refl) below (id_small root p.0) (item_small item p.1)
 reads (Link root item from) below stored =
     let p = or_parts (is_above_ids root) (is_above_items item || is_above_ids from) below in
     let q = or_parts (is_above_items item) (is_above_ids from) p.1 in
-    three (codes "link") Link root item from refl (λ words. refl) below (id root p.0) (items item q.0) (id from q.1)
+    reads_three (codes "link") Link root item from refl (λ words. refl) below (id_small root p.0) (item_small item q.0) (id_small from q.1)
 reads (Load to root item) below stored =
     let p = or_parts (is_above_ids to) (is_above_ids root || is_above_items item) below in
     let q = or_parts (is_above_ids root) (is_above_items item) p.1 in
-    three (codes "load") Load to root item refl (λ words. refl) below (id to p.0) (id root q.0) (items item q.1)
+    reads_three (codes "load") Load to root item refl (λ words. refl) below (id_small to p.0) (id_small root q.0) (item_small item q.1)
 reads (CopyRefs root item from from_item length) below stored =
     let p = or_parts (is_above_ids root) (is_above_items item || (is_above_ids from || (is_above_items from_item || is_above_items length))) below in
     let q = or_parts (is_above_items item) (is_above_ids from || (is_above_items from_item || is_above_items length)) p.1 in
     let r = or_parts (is_above_ids from) (is_above_items from_item || is_above_items length) q.1 in
     let s = or_parts (is_above_items from_item) (is_above_items length) r.1 in
-    copy_refs root item from from_item length below (id root p.0) (items item q.0) (id from r.0) (items from_item s.0) (items length s.1)
-reads (MoveRoot to from) below stored = two_ids (codes "move") MoveRoot to from refl (λ words. refl) refl below
-reads (DropRoot root) below stored = one (codes "drop") DropRoot root refl (λ words. refl) below (id root below)
-reads (Same a b) below stored = two_ids (codes "same") Same a b refl (λ words. refl) refl below
-reads (Ident root) below stored = one (codes "id") Ident root refl (λ words. refl) below (id root below)
-reads (Hash root) below stored = one (codes "hash") Hash root refl (λ words. refl) below (id root below)
-reads (Place root) below stored = one (codes "where") Place root refl (λ words. refl) below (id root below)
-reads (Pin root) below stored = one (codes "pin") Pin root refl (λ words. refl) below (id root below)
-reads (Unpin root) below stored = one (codes "unpin") Unpin root refl (λ words. refl) below (id root below)
-reads (Deref to root) below stored = two_ids (codes "deref") Deref to root refl (λ words. refl) refl below
-reads (Register root queue) below stored = two_ids (codes "register") Register root queue refl (λ words. refl) refl below
-reads (NextFinal to queue) below stored = two_ids (codes "next") NextFinal to queue refl (λ words. refl) refl below
+    reads_copy root item from from_item length below (id_small root p.0) (item_small item q.0) (id_small from r.0) (item_small from_item s.0) (item_small length s.1)
+reads (MoveRoot to from) below stored = reads_two_ids (codes "move") MoveRoot to from refl (λ words. refl) refl below
+reads (DropRoot root) below stored = reads_one (codes "drop") DropRoot root refl (λ words. refl) below (id_small root below)
+reads (Same a b) below stored = reads_two_ids (codes "same") Same a b refl (λ words. refl) refl below
+reads (Ident root) below stored = reads_one (codes "id") Ident root refl (λ words. refl) below (id_small root below)
+reads (Hash root) below stored = reads_one (codes "hash") Hash root refl (λ words. refl) below (id_small root below)
+reads (Place root) below stored = reads_one (codes "where") Place root refl (λ words. refl) below (id_small root below)
+reads (Pin root) below stored = reads_one (codes "pin") Pin root refl (λ words. refl) below (id_small root below)
+reads (Unpin root) below stored = reads_one (codes "unpin") Unpin root refl (λ words. refl) below (id_small root below)
+reads (Deref to root) below stored = reads_two_ids (codes "deref") Deref to root refl (λ words. refl) refl below
+reads (Register root queue) below stored = reads_two_ids (codes "register") Register root queue refl (λ words. refl) refl below
+reads (NextFinal to queue) below stored = reads_two_ids (codes "next") NextFinal to queue refl (λ words. refl) refl below
 reads (MakeLink p number root light own) below stored =
     let q = or_parts (is_above_ids number) (is_above_ids root || is_above_counts own) below in
     let r = or_parts (is_above_ids root) (is_above_counts own) q.1 in
-    make_link p number root light own below (id number q.0) (id root r.0) (count own r.1)
-reads (Inc number) below stored = one (codes "inc") Inc number refl (λ words. refl) below (id number below)
-reads (Dec number) below stored = one (codes "dec") Dec number refl (λ words. refl) below (id number below)
-reads (Count number) below stored = one (codes "count") Count number refl (λ words. refl) below (id number below)
-reads (FromObj root) below stored = one (codes "fromobj") FromObj root refl (λ words. refl) below (id root below)
-reads (ToObj to number) below stored = two_ids (codes "toobj") ToObj to number refl (λ words. refl) refl below
-reads NextDead below stored = none (codes "nextdead") NextDead refl refl below
-reads Minor below stored = none (codes "minor") Minor refl refl below
-reads Step below stored = none (codes "step") Step refl refl below
-reads Collect below stored = none (codes "collect") Collect refl refl below
-reads Used below stored = none (codes "used") Used refl refl below
+    reads_link p number root light own below (id_small number q.0) (id_small root r.0) (count_small own r.1)
+reads (Inc number) below stored = reads_one (codes "inc") Inc number refl (λ words. refl) below (id_small number below)
+reads (Dec number) below stored = reads_one (codes "dec") Dec number refl (λ words. refl) below (id_small number below)
+reads (Count number) below stored = reads_one (codes "count") Count number refl (λ words. refl) below (id_small number below)
+reads (FromObj root) below stored = reads_one (codes "fromobj") FromObj root refl (λ words. refl) below (id_small root below)
+reads (ToObj to number) below stored = reads_two_ids (codes "toobj") ToObj to number refl (λ words. refl) refl below
+reads NextDead below stored = reads_bare (codes "nextdead") NextDead refl refl below
+reads Minor below stored = reads_bare (codes "minor") Minor refl refl below
+reads Step below stored = reads_bare (codes "step") Step refl refl below
+reads Collect below stored = reads_bare (codes "collect") Collect refl refl below
+reads Used below stored = reads_bare (codes "used") Used refl refl below
 
 -- the line of a command in range says that command
 pub command_words-read : (c : Command) → IsCommandInRange c → item_of (joined (command_words c)) ≡ Ok (CommandItem c)

@@ -1,12 +1,10 @@
 -- A command line that was read is the one line of its command.
-use Rattle.std.proofs.Common.{◌≡◌, ℕ, ◌^◌, ◌<◌, Bool, true, false, List, [], ◌∷◌, Result, Ok, Err, refl, sym, ap, ◌∙◌, subst, inl, inr}
+use Rattle.std.proofs.Common.{◌≡◌, ℕ, ◌^◌, ◌<◌, Bool, true, false, List, [], ◌∷◌, Result, Ok, refl, sym, ap, ◌∙◌, subst}
 use Rattle.std.specs.Prelude.{decimal, bytes_eq, if◌then◌else◌, codes}
-use Rattle.std.proofs.lemmas.Bool.{cases_Bool}
-use Rattle.std.proofs.lemmas.Slice.Eq.{bytes_eq-Decides}
 use Rattle.store_model.specs.declared.command.Command.{Command}
 use Rattle.store_model.specs.declared.command.Command.TheVariants.{NewFixed, NewArray, NewWeak, Put, Get, Link, Load, CopyRefs, MoveRoot, DropRoot, Same, Ident, Hash, Place, Pin, Unpin, Deref, Register, NextFinal, MakeLink, Inc, Dec, Count, FromObj, ToObj, NextDead, Minor, Step, Collect, Used}
 use Rattle.store_model.specs.declared.item.BadLine.{BadLine}
-use Rattle.store_model.specs.declared.item.BadLine.TheVariants.{Syntax, Range}
+use Rattle.store_model.specs.declared.item.BadLine.TheVariants.{Range}
 use Rattle.store_model.specs.Range.{is_above}
 use Rattle.store_model.specs.Numbers.{◌>>=◌, number_word, no_word, one_number, two_numbers, three_numbers, five_numbers}
 use Rattle.store_model.specs.CommandGrammar.{in_range, no_numbers, with_one, with_two, with_three, new_tail, new_form, copy_form, link_form, kind_word, structure_form, slot_form, command_form}

@@ -1,7 +1,7 @@
 -- An item's line is read as that item, and as no other.
-use Rattle.std.proofs.Common.{◌≡◌, ℕ, ◌+◌, ◌^◌, ◌<◌, ◌≤◌, Bool, true, false, List, [], ◌∷◌, ◌++◌, get_or, Option, Some, None, Result, Ok, Err, refl, sym, ap, ◌∙◌, arith}
-use Rattle.std.specs.Prelude.{decimal, if◌then◌else◌, codes, ◌||◌, ◌==◌, slice_index_or, ◌↔◌}
-use Rattle.std.proofs.lemmas.Bool.{or_parts, or_from, eqb-true, agree_below_at, ltb-false}
+use Rattle.std.proofs.Common.{◌≡◌, ℕ, ◌^◌, ◌<◌, ◌≤◌, Bool, true, false, List, [], ◌∷◌, ◌++◌, Option, Some, None, Result, Ok, refl, ap, ◌∙◌, arith}
+use Rattle.std.specs.Prelude.{decimal, codes, ◌==◌, slice_index_or, ◌↔◌}
+use Rattle.std.proofs.lemmas.Bool.{or_parts, eqb-true, agree_below_at}
 use Rattle.type_table.specs.declared.info.Shape.{Shape}
 use Rattle.type_table.specs.declared.info.Shape.TheVariants.{Fixed, IntArray, RefArray, Weak}
 use Rattle.type_table.specs.declared.info.TypeInfo.{TypeInfo}
@@ -9,15 +9,14 @@ use Rattle.store_model.specs.declared.item.Item.{Item}
 use Rattle.store_model.specs.declared.item.Item.TheVariants.{Blank, Setting, TypeDef, Command as CommandItem}
 use Rattle.store_model.specs.declared.item.BadLine.{BadLine}
 use Rattle.store_model.specs.Range.{is_above_ids}
-use Rattle.store_model.specs.Numbers.{◌>>=◌, number_word, one_number}
-use Rattle.store_model.specs.Grammar.{setting_names, setting_of, setting_with, setting_form, shape_words, destructor_word, end_of_type, is_above_shape, type_in_range, type_form, form_of, item_of}
-use Rattle.store_model.specs.ItemText.{joined, decimals, shape_text, destructor_text, item_words, item_text}
+use Rattle.store_model.specs.Grammar.{setting_names, setting_of, setting_form, shape_words, end_of_type, is_above_shape, type_form, form_of, item_of}
+use Rattle.store_model.specs.ItemText.{decimals, shape_text, destructor_text, item_text}
 use Rattle.store_model.specs.ItemLine.{IsTypeInRange, HasLine, is_blank, IsLineOf}
 use Rattle.script_text.proofs.Separated.{is_word}
 use Rattle.script_text.proofs.Decimals.{is_word-decimal}
 use Rattle.script_text.proofs.ReadWords.{number_word-decimal, one_number-decimals}
 use Rattle.script_text.proofs.Joined.{are_words, item_of-joined}
-use Rattle.script_text.proofs.CommandReading.{command_words-read, id}
+use Rattle.script_text.proofs.CommandReading.{command_words-read, id_small}
 use Rattle.script_text.proofs.ItemSpelling.{item_of-is}
 
 -- whether this place was found
@@ -50,7 +49,7 @@ shape_words-text : (shape : Shape) (words : List (List ℕ)) → is_above_shape 
 unfolding shape_words
 shape_words-text (Fixed ints refs) words below =
     let p = or_parts (is_above_ids ints) (is_above_ids refs) below in
-    rw (number_word-decimal ints (decimal refs ∷ words) (id ints p.0), number_word-decimal refs words (id refs p.1)) refl
+    rw (number_word-decimal ints (decimal refs ∷ words) (id_small ints p.0), number_word-decimal refs words (id_small refs p.1)) refl
 shape_words-text IntArray words below = refl
 shape_words-text RefArray words below = refl
 shape_words-text Weak words below = refl
@@ -72,7 +71,7 @@ are_words-destructor false = refl
 are_words-type : (shape : Shape) (destructor : Bool) → is_above_shape shape ≡ false → are_words (shape_text shape ++ destructor_text destructor) ≡ true
 are_words-type (Fixed ints refs) destructor below =
     let p = or_parts (is_above_ids ints) (is_above_ids refs) below in
-    rw (is_word-decimal ints (id ints p.0), is_word-decimal refs (id refs p.1)) (are_words-destructor destructor)
+    rw (is_word-decimal ints (id_small ints p.0), is_word-decimal refs (id_small refs p.1)) (are_words-destructor destructor)
 are_words-type IntArray destructor below = are_words-destructor destructor
 are_words-type RefArray destructor below = are_words-destructor destructor
 are_words-type Weak destructor below = are_words-destructor destructor
@@ -80,7 +79,7 @@ are_words-type Weak destructor below = are_words-destructor destructor
 type-read : (number : ℕ) (info : TypeInfo) → IsTypeInRange number info → item_of (item_text (TypeDef number info)) ≡ Ok (TypeDef number info)
 unfolding form_of type_form
 type-read number info is =
-    let small = id number is.id_below in
+    let small = id_small number is.id_below in
     let behind = shape_text info.shape ++ destructor_text info.destructor in
     item_of-joined (codes "type") (decimal number ∷ behind) refl (rw (is_word-decimal number small) (are_words-type info.shape info.destructor is.shape_below))
     ∙ rw (

@@ -1,21 +1,19 @@
 -- A line that was read is the one line of its item.
-use Rattle.std.proofs.Common.{◌≡◌, ℕ, ◌+◌, ◌^◌, ◌<◌, ◌≤◌, suc, Bool, true, false, List, [], ◌∷◌, ◌++◌, length, get_or, Option, Some, None, Result, Ok, Err, refl, sym, ap, ◌∙◌, subst, inl, inr, arith, add-one}
-use Rattle.std.specs.Prelude.{decimal, bytes_eq, if◌then◌else◌, codes, ◌||◌, ◌==◌, option_map, slice_index_or}
-use Rattle.std.proofs.lemmas.Bool.{cases_Bool, or_parts, eqb-false}
+use Rattle.std.proofs.Common.{◌≡◌, ℕ, ◌+◌, ◌<◌, suc, Bool, true, false, List, [], ◌∷◌, ◌++◌, length, Option, Some, None, Ok, refl, sym, ap, ◌∙◌, subst, inl, inr, arith, add-one}
+use Rattle.std.specs.Prelude.{decimal, bytes_eq, codes, ◌||◌, ◌==◌, option_map, slice_index_or}
+use Rattle.std.proofs.lemmas.Bool.{cases_Bool, or_parts}
 use Rattle.std.proofs.lemmas.Slice.Eq.{bytes_eq-Decides}
 use Rattle.type_table.specs.declared.info.Shape.{Shape}
 use Rattle.type_table.specs.declared.info.Shape.TheVariants.{Fixed, IntArray, RefArray, Weak}
 use Rattle.type_table.specs.declared.info.TypeInfo.{TypeInfo}
-use Rattle.store_model.specs.declared.command.Command.{Command}
 use Rattle.store_model.specs.declared.item.Item.{Item}
 use Rattle.store_model.specs.declared.item.Item.TheVariants.{Blank, Setting, TypeDef, Command as CommandItem}
-use Rattle.store_model.specs.declared.item.BadLine.{BadLine}
-use Rattle.store_model.specs.declared.item.BadLine.TheVariants.{Syntax, Range}
+use Rattle.store_model.specs.declared.item.BadLine.TheVariants.{Range}
 use Rattle.store_model.specs.Range.{is_above_ids}
-use Rattle.store_model.specs.Numbers.{words_of, ◌>>=◌, number_word, no_word, one_number}
+use Rattle.store_model.specs.Numbers.{words_of, number_word, no_word, one_number}
 use Rattle.store_model.specs.CommandGrammar.{command_form}
-use Rattle.store_model.specs.Grammar.{setting_names, place_of, setting_of, setting_with, setting_form, fixed_shape, shape_words, destructor_word, end_of_type, is_above_shape, type_in_range, type_form, as_item, form_of, item_of}
-use Rattle.store_model.specs.ItemText.{joined, decimals, shape_text, destructor_text, item_words, item_text}
+use Rattle.store_model.specs.Grammar.{setting_names, place_of, setting_of, setting_with, setting_form, fixed_shape, shape_words, destructor_word, end_of_type, is_above_shape, type_form, as_item, form_of, item_of}
+use Rattle.store_model.specs.ItemText.{joined, shape_text, destructor_text, item_words, item_text}
 use Rattle.store_model.specs.ItemLine.{HasLine, IsLineOf}
 use Rattle.script_text.proofs.ReadWords.{both_gave, by_keyword, ok_unless, number_word-is, no_word-is, one_number-is}
 use Rattle.script_text.proofs.CommandSpelling.{command_form-is}

@@ -17,3 +17,6 @@ pub use commands::print_command;
 pub use parse::parse_line;
 pub use reader::{LineReader, ReadEnd};
 pub use store_model::{BadLine, Command, Item};
+
+#[cfg(test)]
+mod tests;

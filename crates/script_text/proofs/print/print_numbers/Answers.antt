@@ -1,4 +1,4 @@
-use Rattle.std.proofs.Common.{List, ℕ, [], ◌∷◌, ◌++◌, take, sym, ap, ◌∙◌, append_assoc}
+use Rattle.std.proofs.Common.{List, ℕ, [], ◌∷◌, ◌++◌, take, ap, ◌∙◌, append_assoc}
 use Rattle.store_model.specs.ItemText.{decimals}
 use Rattle.script_text.specs.Printing.{spaced}
 use Rattle.script_text.proofs.Spaced.{spaced_more, kept}
