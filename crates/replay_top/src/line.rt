@@ -1,9 +1,8 @@
 //! One line of the script: it is read, done, and its text is written.
-ghost use Rattle.std.specs.Prelude.{◌≡◌, ◌≤◌, ◌++◌, length, IsErrOf, OnOk, All};
+ghost use Rattle.std.specs.Prelude.{◌≡◌, ◌≤◌, length, IsErrOf};
 ghost use Rattle.heap_io.specs.Causes.{Rose, HasCause};
 ghost use Rattle.store_model.specs.Progress.{Progress};
 ghost use Rattle.store_model.specs.Script.{bad_reason};
-ghost use Rattle.store_model.specs.Text.{lines_text, IsProper};
 ghost use Rattle.replay_top.specs.Standing.{HasHeap, StandsAt};
 ghost use Rattle.replay_top.specs.Written.{Writes};
 ghost use Rattle.replay_top.specs.Lines.{EndsLine, stop_of};
@@ -11,10 +10,10 @@ ghost use Rattle.replay_top.specs.Lines.{EndsLine, stop_of};
 use crate::heap::Heap;
 use crate::session::{RunFault, Session};
 use heap_io::{Failed, Sink};
-use line_text::print_line;
+use line_text::print_lines;
 use script_text::parse_line;
 use std::alloc::{AllocError, Global};
-use store_model::{BadLine, Line, Reason};
+use store_model::{BadLine, Reason};
 
 /// Why a run stops before the script's end.
 #[derive(Clone, Copy, Debug, PartialEq, Eq)]
@@ -43,17 +42,6 @@ pub(crate) fn write_all<K: Sink>(out: &mut K, text: &[u8]) -> Result<(), Failed>
     let mut at = 0;
     while at < text.len() {
         at += out.write(&text[at..])?;
-    }
-    Ok(())
-}
-
-/// Appends the text of lines.
-fn print_lines(lines: &[Line], out: &mut Vec<u8>) -> Result<(), AllocError>
-    requires { All IsProper lines.now }
-    ensures { OnOk result (out.new.items ≡ out.old.items ++ lines_text lines.now) }
-{
-    for line in lines {
-        print_line(line, out)?;
     }
     Ok(())
 }

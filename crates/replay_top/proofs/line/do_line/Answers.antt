@@ -22,14 +22,14 @@ pub returns-in-Ok-write_all-clause-ends : goal.returns-in-Ok-write_all-clause-en
 returns-in-Ok-write_all-clause-ends g c = λ p at.
     let done = c.in-Ok-item.ensures p at in
     line_done p c.args.number c.args.line.now c.in-Ok.item c.new-lines.result.items c.item.new.out.items c.print_lines.new.out.items (g.K.Sink.written c.args.out.now) (g.K.Sink.written c.write_all.new.out) c.item.new.self c.item.new.heap
-    c.requires.number c.requires.line (sym c.in-Ok.ensures.reading) c.new-lines.ensures.items done (c.in_ok-print_lines.ensures ∙ ap (λ x. x ++ lines_text c.deref.result.now) c.new-text.ensures.items ∙ ap lines_text c.deref.ensures.value)
+    c.requires.number c.requires.line (sym c.in-Ok.ensures.reading) c.new-lines.ensures.items done (c.in_ok-print_lines.ensures.ok ∙ ap (λ x. x ++ lines_text c.deref.result.now) c.new-text.ensures.items ∙ ap lines_text c.deref.ensures.value)
     (let P : List ℕ → Type 0 = Appends (g.K.Sink.written c.args.out.now) (g.K.Sink.written c.write_all.new.out) in subst P c.deref-2.ensures.value c.in-Ok-write_all.ensures.writes)
 
 pub returns-clause-ends : goal.returns-clause-ends
 returns-clause-ends g c = λ p at.
     let done = c.in-Ok-item.ensures p at in
     line_cut p c.args.number c.args.line.now c.in-Ok.item c.new-lines.result.items c.item.new.out.items c.print_lines.new.out.items (g.K.Sink.written c.args.out.now) (g.K.Sink.written c.write_all.new.out) c.item.new.self c.item.new.heap
-    c.requires.number c.requires.line (sym c.in-Ok.ensures.reading) c.new-lines.ensures.items done (c.in_ok-print_lines.ensures ∙ ap (λ x. x ++ lines_text c.deref.result.now) c.new-text.ensures.items ∙ ap lines_text c.deref.ensures.value)
+    c.requires.number c.requires.line (sym c.in-Ok.ensures.reading) c.new-lines.ensures.items done (c.in_ok-print_lines.ensures.ok ∙ ap (λ x. x ++ lines_text c.deref.result.now) c.new-text.ensures.items ∙ ap lines_text c.deref.ensures.value)
     (let P : List ℕ → Type 0 = WritesPart (g.K.Sink.written c.args.out.now) (g.K.Sink.written c.write_all.new.out) in subst P c.deref-2.ensures.value c.in-Err-write_all.ensures.writes)
 
 pub print_lines-requires : goal.print_lines-requires
