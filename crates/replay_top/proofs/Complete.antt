@@ -1,5 +1,5 @@
 -- A run that no cause stops comes to its end.
-use Rattle.std.proofs.Common.{◌≡◌, ℕ, ◌+◌, List, ◌∷◌, ◌++◌, length, Option, Some, None, Result, Ok, Err, refl, sym, ap, ◌∙◌, subst, inl, inr}
+use Rattle.std.proofs.Common.{◌≡◌, ℕ, List, Option, Some, None, Err, refl, subst, inr}
 use Rattle.store_model.specs.EndOfRun.{IsRefused}
 use Rattle.replay_top.specs.declared.line.Stop.{Stop}
 use Rattle.replay_top.specs.declared.line.Stop.TheVariants.{Malformed, OutOfMemory, ReadFault, WriteFault}

@@ -1,7 +1,6 @@
 -- What the commands of a heap do is what the store allows.
-use Rattle.std.proofs.Common.{◌≡◌, ℕ, ◌+◌, ◌<◌, ◌≤◌, Bool, List, [], ◌∷◌, ◌++◌, length, Option, Some, None, Result, Ok, Err, false, true, refl, sym, ap, ◌∙◌, subst, arith, length-append, append-nil}
+use Rattle.std.proofs.Common.{◌≡◌, ℕ, ◌+◌, ◌≤◌, List, [], ◌∷◌, ◌++◌, length, Option, Some, None, Result, Ok, Err, false, refl, sym, ap, ◌∙◌, length-append, append-nil}
 use Rattle.std.specs.Prelude.{slice_set, OnOk}
-use Rattle.type_table.specs.declared.info.Shape.{Shape}
 use Rattle.type_table.specs.declared.info.TypeInfo.{TypeInfo}
 use Rattle.type_table.specs.Table.{value_at}
 use Rattle.store_model.specs.declared.command.Command.{Command}
@@ -9,7 +8,7 @@ use Rattle.store_model.specs.declared.command.Command.TheVariants.{NewFixed, New
 use Rattle.store_model.specs.declared.line.Line.{Line}
 use Rattle.store_model.specs.declared.line.Line.TheVariants.{Born, Got, Loaded, SameAs}
 use Rattle.store_model.specs.Object.{Object}
-use Rattle.store_model.specs.Store.{Store, empty_store, kept_words}
+use Rattle.store_model.specs.Store.{empty_store, kept_words}
 use Rattle.store_model.specs.Slots.{held, changed_at, with_int, with_ref, is_same}
 use Rattle.store_model.specs.Birth.{BirthOfType, newborn}
 use Rattle.store_model.specs.Steps.{Does, int_at, ref_at}

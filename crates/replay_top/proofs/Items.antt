@@ -1,5 +1,5 @@
 -- What an item that is not refused does where a session and its heap stand.
-use Rattle.std.proofs.Common.{◌≡◌, ℕ, Bool, List, [], ◌∷◌, ◌++◌, Option, Some, None, false, true, refl, sym, ap, ◌∙◌, subst, append-nil, option_map}
+use Rattle.std.proofs.Common.{◌≡◌, ℕ, List, [], ◌∷◌, ◌++◌, Option, Some, None, false, refl, sym, ap, ◌∙◌, subst, append-nil, option_map}
 use Rattle.std.specs.Prelude.{is_none}
 use Rattle.type_table.specs.declared.info.TypeInfo.{TypeInfo}
 use Rattle.type_table.specs.Table.{Table, with_value}
@@ -15,11 +15,11 @@ use Rattle.store_model.specs.Steps.{Does}
 use Rattle.store_model.specs.Progress.{Progress, with_setting, after_setting, after_type, after_command}
 use Rattle.store_model.specs.Checks.{first_reason}
 use Rattle.store_model.specs.Refusal.{refusal, command_checks}
-use Rattle.store_model.specs.Transcript.{Group, ItemDoes}
+use Rattle.store_model.specs.Transcript.{ItemDoes}
 use Rattle.replay_top.specs.declared.session.Session.{Session}
-use Rattle.replay_top.specs.Parts.{HeapParts, closed_heap, setup_of, store_of}
+use Rattle.replay_top.specs.Parts.{HeapParts, setup_of, store_of}
 use Rattle.replay_top.specs.Doing.{DoesCommand}
-use Rattle.replay_top.specs.Standing.{HasHeapIf, HasHeap, StandsAt, DoesItem, Sets, Adds, Begins, progress_of, progress_from, types_in, store_in}
+use Rattle.replay_top.specs.Standing.{HasHeapIf, StandsAt, DoesItem, Sets, Adds, Begins, progress_of, progress_from, types_in}
 use Rattle.replay_top.proofs.Refusals.{passed}
 
 pub does_blank : (session : Session) (heap : HeapParts) (at : Progress) (item : Item) (before : List Line)

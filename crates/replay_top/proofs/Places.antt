@@ -1,6 +1,6 @@
 -- Where the object of a birth stands, when the births are numbered through.
-use Rattle.std.proofs.Common.{◌≡◌, ℕ, ◌+◌, ◌<◌, ◌≤◌, suc, zero, List, [], ◌∷◌, length, map, cond, Option, Some, None, true, false, refl, sym, ap, ◌∙◌, subst, arith, option_map, get_or}
-use Rattle.std.specs.Prelude.{slice_get, slice_set, ◌==◌, Bool}
+use Rattle.std.proofs.Common.{◌≡◌, ℕ, ◌+◌, ◌<◌, ◌≤◌, suc, zero, List, [], ◌∷◌, length, map, Some, None, true, false, refl, sym, ap, ◌∙◌, subst, arith, option_map, get_or}
+use Rattle.std.specs.Prelude.{slice_get, slice_set, ◌==◌}
 use Rattle.std.proofs.lemmas.Bool.{ne_eqb, eq-eqb}
 use Rattle.std.proofs.lemmas.List.{map-set, length-map}
 use Rattle.std.proofs.lemmas.Option.{slice_get-map, slice_get_read}

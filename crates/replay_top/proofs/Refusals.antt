@@ -1,5 +1,5 @@
 -- What is known where no check of a command holds.
-use Rattle.std.proofs.Common.{◌≡◌, ℕ, ◌+◌, ◌<◌, ◌≤◌, Bool, List, [], ◌∷◌, length, cond, Option, Some, None, false, true, refl, sym, ap, ◌∙◌, subst, arith, map, ◌++◌, option_map}
+use Rattle.std.proofs.Common.{◌≡◌, ℕ, ◌+◌, ◌<◌, ◌≤◌, Bool, List, [], ◌∷◌, length, cond, Option, Some, None, false, true, refl, ap, subst, arith, ◌++◌, option_map}
 use Rattle.std.specs.Prelude.{not, filter, nat_lt, nat_le, ◌||◌}
 use Rattle.std.proofs.lemmas.Bool.{ltb-false, leb-false}
 use Rattle.type_table.specs.declared.info.Shape.{Shape}
@@ -11,13 +11,12 @@ use Rattle.store_model.specs.declared.command.Command.{Command}
 use Rattle.store_model.specs.declared.item.Reason.{Reason}
 use Rattle.store_model.specs.declared.item.Reason.TheVariants.{NotBuilt, NoRoot, NoType, WrongShape, NilRoot, NoItem, Range}
 use Rattle.store_model.specs.Setup.{young_words}
-use Rattle.store_model.specs.declared.kind.Kind.{Kind}
 use Rattle.store_model.specs.declared.settings.Settings.{Settings}
 use Rattle.store_model.specs.Object.{Object}
 use Rattle.store_model.specs.Store.{kept_words, unsettled_words}
-use Rattle.store_model.specs.Slots.{object_in, ints_of, refs_of}
+use Rattle.store_model.specs.Slots.{ints_of, refs_of}
 use Rattle.store_model.specs.Range.{is_above, is_above_ids, is_above_items}
-use Rattle.store_model.specs.Shapes.{kind_in, kind_of, has_shape, holds_ints, holds_refs, is_fixed_shape, is_array_shape}
+use Rattle.store_model.specs.Shapes.{kind_of, holds_ints, holds_refs, is_fixed_shape, is_array_shape}
 use Rattle.store_model.specs.Refusal.{command_checks}
 use Rattle.replay_top.specs.Parts.{HeapParts, setup_of, store_of}
 use Rattle.store_model.specs.Checks.{first_reason, slots_checks, born_checks, room_checks, type_words, int_checks, ref_checks}

@@ -1,11 +1,10 @@
 -- Where a session and its heap stand, and what an item does there.
-use Rattle.std.specs.Prelude.{◌≡◌, ℕ, Bool, true, false, List, [], ◌∷◌, ◌++◌, Option, Some, None, is_none, option_map, Result, Ok, Err, ⊤}
+use Rattle.std.specs.Prelude.{◌≡◌, ℕ, true, List, [], ◌∷◌, ◌++◌, Option, Some, None, is_none, option_map, Result, Ok, Err, ⊤}
 use Rattle.type_table.specs.declared.info.TypeInfo.{TypeInfo}
 use Rattle.type_table.specs.Table.{Table, with_value}
 use Rattle.store_model.specs.declared.item.Item.{Item}
 use Rattle.store_model.specs.declared.line.Line.{Line}
 use Rattle.store_model.specs.declared.settings.Settings.{Settings}
-use Rattle.store_model.specs.Setup.{Setup}
 use Rattle.store_model.specs.Store.{Store, empty_store}
 use Rattle.store_model.specs.Progress.{Progress, with_setting}
 use Rattle.store_model.specs.Refusal.{refusal}

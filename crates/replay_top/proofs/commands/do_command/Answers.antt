@@ -1,10 +1,5 @@
-use Rattle.std.proofs.Common.{◌≡◌, None, ap, sym, ◌∙◌, subst}
 use Rattle.type_table.specs.Table.{value_at}
-use Rattle.store_model.specs.declared.command.Command.{Command}
-use Rattle.store_model.specs.Checks.{first_reason}
-use Rattle.store_model.specs.Refusal.{command_checks}
-use Rattle.replay_top.specs.Parts.{setup_of, store_of}
-use Rattle.replay_top.specs.Doing.{DoesCommand, Births}
+use Rattle.replay_top.specs.Doing.{DoesCommand}
 use Rattle.replay_top.proofs.Refusals.{fixed_accepted, array_accepted}
 use Rattle.replay_top.proofs.Doing.{on_ok, birth_fits, births_are, does_fixed, does_array, does_put, does_get, does_link, does_load, does_move, does_drop, does_same}
 use Rattle.replay_top.proofs.commands.do_command.Goals as goal

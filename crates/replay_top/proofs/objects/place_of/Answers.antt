@@ -1,4 +1,4 @@
-use Rattle.std.proofs.Common.{◌≡◌, ◌+◌, ◌-◌, map, arith}
+use Rattle.std.proofs.Common.{◌-◌, map, arith}
 use Rattle.std.proofs.lemmas.List.{length-map}
 use Rattle.replay_top.specs.Seen.{seen}
 use Rattle.replay_top.proofs.Places.{object_at-below, object_at-above, place_from}

@@ -1,4 +1,4 @@
-use Rattle.std.proofs.Common.{◌++◌, refl}
+use Rattle.std.proofs.Common.{refl}
 use Rattle.std.proofs.lemmas.Result.{err_from_is_err_and}
 use Rattle.replay_top.proofs.Pieces.{writes_first, writes_both}
 use Rattle.replay_top.proofs.tell.write_both.Goals as goal

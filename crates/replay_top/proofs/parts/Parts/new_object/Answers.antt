@@ -1,7 +1,7 @@
-use Rattle.std.proofs.Common.{◌≡◌, ◌+◌, ◌≤◌, List, ◌∷◌, ◌++◌, [], length, map, Some, None, ap, sym, ◌∙◌, subst, arith}
+use Rattle.std.proofs.Common.{◌≡◌, ◌+◌, ◌≤◌, List, ◌∷◌, ◌++◌, [], map, Some, None, ap, sym, ◌∙◌, subst, arith}
 use Rattle.std.proofs.lemmas.List.{length-map, map-append}
 use Rattle.type_table.specs.Words.{words_in}
-use Rattle.store_model.specs.Object.{Object, words_of}
+use Rattle.store_model.specs.Object.{Object}
 use Rattle.store_model.specs.Store.{kept_words}
 use Rattle.store_model.specs.Birth.{Request, newborn}
 use Rattle.replay_top.specs.Parts.{HeapParts}

@@ -1,4 +1,4 @@
-use Rattle.std.proofs.Common.{◌≡◌, ℕ, None, Option, sym, ◌∙◌, subst}
+use Rattle.std.proofs.Common.{◌≡◌, Option, sym, ◌∙◌, subst}
 use Rattle.type_table.specs.declared.info.TypeInfo.{TypeInfo}
 use Rattle.type_table.specs.Table.{Table}
 use Rattle.store_model.specs.Store.{unsettled_words}
