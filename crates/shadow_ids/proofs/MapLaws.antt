@@ -66,3 +66,6 @@ pub popped-removed : {S : Type 0} (old new : IndexMap ℕ ℕ S) (popped : Optio
     → IfSome popped (λ pair. seen new ≡ map.remove (seen old) pair.0)
 popped-removed old new None updates = tt
 popped-removed old new (Some pair) updates = seen-remove old new pair.0 updates
+
+-- what the steps of a table are to a map, for its methods
+pub ruleset map_steps = (get-seen, seen-insert, seen-remove, popped-removed)

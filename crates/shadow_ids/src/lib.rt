@@ -45,6 +45,7 @@ impl Shadows {
 
     /// Notes the home of the object at the place `a`, which has none yet. Without memory nothing
     /// changes.
+    #[tactic(auto, using(crate::proofs::MapLaws::map_steps))]
     pub fn keep_home(&mut self, a: u64, home: u64) -> Result<(), AllocError>
         requires { map.get self.old a ≡ None }
         ensures ok { OnOk result (self.new ≡ map.insert self.old a home) }
@@ -55,6 +56,7 @@ impl Shadows {
     }
 
     /// The home of the object at the place `a`. `None` exactly where it has none.
+    #[tactic(auto, using(crate::proofs::MapLaws::map_steps))]
     pub fn home(&self, a: u64) -> Option<u64>
         ensures { result ≡ map.get self.now a }
     {
@@ -63,6 +65,7 @@ impl Shadows {
 
     /// Takes the home of the object at the place `a` off the table. `None` exactly where it has
     /// none, and then nothing changes.
+    #[tactic(auto, using(crate::proofs::MapLaws::map_steps))]
     pub fn take_home(&mut self, a: u64) -> Option<u64>
         ensures home { result ≡ map.get self.old a }
         ensures taken { self.new ≡ map.remove self.old a }
@@ -73,6 +76,7 @@ impl Shadows {
 
     /// Takes the home of some object off the table, and tells its place and its home. `None`
     /// exactly where no object has a home.
+    #[tactic(auto, using(crate::proofs::MapLaws::map_steps))]
     pub fn take_any(&mut self) -> Option<(u64, u64)>
         ensures home { IfSome result (λ pair. map.get self.old pair.0 ≡ Some pair.1) }
         ensures taken { IfSome result (λ pair. self.new ≡ map.remove self.old pair.0) }
