@@ -1,4 +1,5 @@
-//! The lines of a script as items, and items as lines.
+//! The lines of a script as items, and commands as lines. A line is read from the front, word by word, and nothing of
+//! it is kept; each command has one line, which is read as that command.
 #![tactic(auto)]
 
 mod commands;
