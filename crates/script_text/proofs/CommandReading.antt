@@ -11,7 +11,7 @@ use Rattle.store_model.specs.Numbers.{◌>>=◌}
 use Rattle.store_model.specs.CommandGrammar.{in_range, no_numbers, with_one, with_two, with_three, new_form, copy_form, link_form, kind_word, structure_form, slot_form, command_form}
 use Rattle.store_model.specs.Grammar.{as_item, form_of, item_of}
 use Rattle.store_model.specs.ItemText.{joined, decimals, command_words, link_word, light_word}
-use Rattle.script_text.specs.ItemLine.{StoresWord, IsCommandInRange}
+use Rattle.store_model.specs.ItemLine.{StoresWord, IsCommandInRange}
 use Rattle.script_text.proofs.Separated.{is_word}
 use Rattle.script_text.proofs.Decimals.{is_word-decimal}
 use Rattle.script_text.proofs.ReadWords.{number_word-decimal, one_number-decimals, two_numbers-decimals, three_numbers-decimals, five_numbers-decimals}

@@ -9,7 +9,7 @@ use Rattle.store_model.specs.Range.{is_above}
 use Rattle.store_model.specs.Numbers.{◌>>=◌, number_word, no_word, one_number, two_numbers, three_numbers, five_numbers}
 use Rattle.store_model.specs.CommandGrammar.{in_range, no_numbers, with_one, with_two, with_three, new_tail, new_form, copy_form, link_form, kind_word, structure_form, slot_form, command_form}
 use Rattle.store_model.specs.ItemText.{decimals, command_words, link_word, light_word}
-use Rattle.script_text.specs.ItemLine.{StoresWord, IsCommandInRange}
+use Rattle.store_model.specs.ItemLine.{StoresWord, IsCommandInRange}
 use Rattle.script_text.proofs.ReadWords.{both_gave, by_keyword, ok_unless, number_word-is, no_word-is, one_number-is, two_numbers-is, three_numbers-is, five_numbers-is}
 
 -- the words are those of the command's line

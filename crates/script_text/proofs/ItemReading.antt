@@ -11,7 +11,7 @@ use Rattle.store_model.specs.declared.item.BadLine.{BadLine}
 use Rattle.store_model.specs.Range.{is_above_ids}
 use Rattle.store_model.specs.Grammar.{setting_names, setting_of, setting_form, shape_words, end_of_type, is_above_shape, type_form, form_of, item_of}
 use Rattle.store_model.specs.ItemText.{decimals, shape_text, destructor_text, item_text}
-use Rattle.script_text.specs.ItemLine.{IsTypeInRange, HasLine, is_blank, IsLineOf}
+use Rattle.store_model.specs.ItemLine.{IsTypeInRange, HasLine, is_blank, IsLineOf}
 use Rattle.script_text.proofs.Separated.{is_word}
 use Rattle.script_text.proofs.Decimals.{is_word-decimal}
 use Rattle.script_text.proofs.ReadWords.{number_word-decimal, one_number-decimals}

@@ -5,7 +5,9 @@ pub mod Decimals
 pub mod ItemReading
 pub mod ItemSpelling
 pub mod Joined
+pub mod KnownLines
 pub mod Numerals
 pub mod ReadWords
+pub mod ReaderAnswers
 pub mod Separated
 pub mod Spaced

@@ -1,19 +1,22 @@
-//! The lines of a script as items, and commands as lines. A line is read from the front, word by word, and nothing of
-//! it is kept; each command has one line, which is read as that command.
+//! The lines of a script: read one after another from a file, each as an item, and commands written as lines. A line is
+//! read word by word from its front, and each command has one line, which is read as that command.
 #![tactic(auto)]
 
 mod commands;
 mod numbers;
 mod objects;
 mod parse;
+mod piece;
 mod print;
 mod ranges;
+mod reader;
 mod slots;
 mod structures;
 mod words;
 
 pub use commands::print_command;
 pub use parse::parse_line;
+pub use reader::{LineReader, ReadEnd};
 pub use store_model::{BadLine, Command, Item};
 
 #[cfg(test)]

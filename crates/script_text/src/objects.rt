@@ -4,7 +4,7 @@ ghost use Rattle.std.specs.Prelude.{◌≡◌, ◌++◌, ◌∷◌, [], OnOk, On
 ghost use Rattle.store_model.specs.declared.command.Command.TheVariants.{NewWeak, Put, Get, Link, Load};
 ghost use Rattle.store_model.specs.CommandGrammar.{command_form, new_form, copy_form, with_two, with_three};
 ghost use Rattle.store_model.specs.ItemText.{joined, command_words};
-ghost use Rattle.script_text.specs.ItemLine.{StoresWord};
+ghost use Rattle.store_model.specs.ItemLine.{StoresWord};
 ghost use Rattle.script_text.specs.Printing.{Extends};
 ghost use Rattle.script_text.specs.Words.{words_in};
 

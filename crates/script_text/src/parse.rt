@@ -3,7 +3,7 @@
 ghost use Rattle.std.specs.Prelude.{◌≡◌, ◌↔◌, Ok, false};
 ghost use Rattle.store_model.specs.Numbers.{words_of};
 ghost use Rattle.store_model.specs.Grammar.{item_of, form_of, setting_of, setting_form, type_form, fixed_shape, destructor_word, end_of_type, is_above_shape};
-ghost use Rattle.script_text.specs.ItemLine.{IsLineOf};
+ghost use Rattle.store_model.specs.ItemLine.{IsLineOf};
 ghost use Rattle.script_text.specs.Words.{words_in, type_of};
 
 use crate::objects::parse_command;

@@ -12,6 +12,8 @@ pub mod Shapes
 pub mod Range
 pub mod Checks
 pub mod StructChecks
+pub mod Structs
+pub mod Links
 pub mod Refusal
 pub mod Transcript
 pub mod Text
@@ -20,5 +22,7 @@ pub mod Numbers
 pub mod Grammar
 pub mod CommandGrammar
 pub mod ItemText
+pub mod ItemLine
 pub mod Script
 pub mod EndOfRun
+pub mod ErrorText

@@ -1,5 +1,5 @@
 -- The first reason for which an item is refused where a script stands, if there is one.
-use Rattle.std.specs.Prelude.{ℕ, ◌+◌, Bool, true, false, List, [], ◌∷◌, ◌++◌, Option, None, length, sum_by}
+use Rattle.std.specs.Prelude.{ℕ, ◌+◌, Bool, true, false, List, [], ◌∷◌, ◌++◌, Option, None, length}
 use Rattle.type_table.specs.Table.{value_at}
 use Rattle.store_model.specs.declared.command.Command.{Command}
 use Rattle.store_model.specs.declared.command.Command.TheVariants.{NewFixed, NewArray, NewWeak, Put, Get, Link, Load, CopyRefs, MoveRoot, DropRoot, Same, Ident, Hash, Place, Pin, Unpin, Deref, Register, NextFinal, MakeLink, Inc, Dec, Count, FromObj, ToObj, NextDead, Minor, Step, Collect, Used}
@@ -7,10 +7,9 @@ use Rattle.store_model.specs.declared.item.Item.{Item}
 use Rattle.store_model.specs.declared.item.Item.TheVariants.{Blank, Setting, TypeDef, Command as CommandItem}
 use Rattle.store_model.specs.declared.item.Reason.{Reason}
 use Rattle.store_model.specs.declared.item.Reason.TheVariants.{NotBuilt, Range}
-use Rattle.store_model.specs.declared.kind.Kind.{Kind}
 use Rattle.store_model.specs.Sets.{is_in}
 use Rattle.store_model.specs.Setup.{Setup, type_at}
-use Rattle.store_model.specs.Store.{Store, Struct, kept_words, unsettled_words}
+use Rattle.store_model.specs.Store.{Store, kept_words, unsettled_words}
 use Rattle.store_model.specs.Slots.{held}
 use Rattle.store_model.specs.Shapes.{kind_in, is_fixed_shape, is_array_shape, is_weak_shape}
 use Rattle.store_model.specs.Range.{is_above}
@@ -112,12 +111,15 @@ words_checks setup store (NewArray root type_id len) =
     room_checks setup.settings (type_words (type_at setup type_id) len) (unsettled_words store.kept store.settled) (kept_words store.kept)
 words_checks setup store command = []
 
+-- the checks of a command none of whose numbers is out of range, in order
+abbrev pub checks_in_range : Setup → Store → Command → Checks
+checks_in_range setup store command =
+    (is_unbuilt command, NotBuilt)
+    ∷ (slots_checks setup.settings.roots (slots_of command) ++ (further_checks setup store command ++ words_checks setup store command))
+
 -- all checks of a command, in order
 abbrev pub command_checks : Setup → Store → Command → Checks
-command_checks setup store command =
-    (is_above command, Range)
-    ∷ (is_unbuilt command, NotBuilt)
-    ∷ (slots_checks setup.settings.roots (slots_of command) ++ (further_checks setup store command ++ words_checks setup store command))
+command_checks setup store command = (is_above command, Range) ∷ checks_in_range setup store command
 
 -- why an item is refused, if it is
 unfoldable pub refusal : Progress → Item → Option Reason

@@ -1,5 +1,5 @@
 -- The store of unmoving objects: objects by birth, and no places in memory but the homes that were told.
-use Rattle.std.specs.Prelude.{ℕ, ◌+◌, Bool, false, ◌==◌, not, is_some, List, [], Option, None, map, sum_by, find, filter, replicate}
+use Rattle.std.specs.Prelude.{ℕ, ◌+◌, Bool, false, ◌==◌, not, List, [], Option, None, sum_by, find, filter, replicate}
 use Rattle.type_table.specs.Table.{Table}
 use Rattle.store_model.specs.declared.line.Phase.{Phase}
 use Rattle.store_model.specs.declared.line.Phase.TheVariants.{Scanning}

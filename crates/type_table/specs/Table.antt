@@ -1,10 +1,15 @@
 -- A finite map from numbers, as the list of its entries whose keys rise.
-use Rattle.std.specs.Prelude.{ℕ, Bool, not, ◌==◌, nat_eq, nat_lt, List, [], ◌∷◌, Option, filter, if◌then◌else◌}
+use Rattle.std.specs.Prelude.{ℕ, ◌<◌, Bool, not, ◌==◌, nat_eq, nat_lt, List, [], ◌∷◌, Option, filter, if◌then◌else◌}
+use Rattle.std.specs.List.{AllPairs}
 use Rattle.std.specs.Map.{lookup}
 
 -- the entries, each a key with what stands there
 abbrev pub Table : Type 0 → Type 0
 Table X = List (ℕ × X)
+
+-- each key is below those behind it
+abbrev pub KeysRise : {X : Type 0} → Table X → Type 0
+KeysRise table = AllPairs (λ entry later. entry.0 < later.0) table
 
 -- what stands at a key, if anything does
 abbrev pub value_at : {X : Type 0} → Table X → ℕ → Option X

@@ -2,5 +2,7 @@
 #![tactic(auto)]
 
 mod info;
+mod table;
 
-pub use info::{Shape, TypeInfo};
+pub use info::{Shape, TypeInfo, words};
+pub use table::{MAX_TYPES, TypeFault, TypeTable};

@@ -1,0 +1,2 @@
+pub mod FrontReads
+pub mod Lookup

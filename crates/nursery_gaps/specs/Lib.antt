@@ -1,0 +1,4 @@
+pub mod Ranges
+pub mod Nursery
+pub mod Gaps
+pub mod Fields

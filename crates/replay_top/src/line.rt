@@ -1,0 +1,104 @@
+//! One line of the script: it is read, done, and its text is written.
+ghost use Rattle.std.specs.Prelude.{◌≡◌, ◌≤◌, length, IsErrOf};
+ghost use Rattle.heap_io.specs.Causes.{Rose, HasCause};
+ghost use Rattle.store_model.specs.Progress.{Progress};
+ghost use Rattle.store_model.specs.Script.{bad_reason};
+ghost use Rattle.replay_top.specs.Standing.{HasHeap, StandsAt};
+ghost use Rattle.replay_top.specs.Written.{Writes};
+ghost use Rattle.replay_top.specs.Lines.{EndsLine, stop_of};
+
+use crate::heap::Heap;
+use crate::session::{RunFault, Session};
+use heap_io::{Failed, Sink};
+use line_text::print_lines;
+use script_text::parse_line;
+use std::alloc::{AllocError, Global};
+use store_model::{BadLine, Reason};
+
+/// Why a run stops before the script's end.
+#[derive(Clone, Copy, Debug, PartialEq, Eq)]
+pub(crate) enum Stop {
+    Malformed { line: u64, reason: Reason },
+    OutOfMemory,
+    ReadFault,
+    WriteFault,
+}
+
+impl From<AllocError> for Stop {
+    ghost use Rattle.replay_top.specs.declared.line.Stop.TheVariants.{OutOfMemory};
+
+    ghost from_gives = { λ _ e. e ≡ OutOfMemory };
+
+    fn from(_: AllocError) -> Self {
+        Stop::OutOfMemory
+    }
+}
+
+/// Writes all of a text, by calls on what is left of it.
+pub(crate) fn write_all<K: Sink>(out: &mut K, text: &[u8]) -> Result<(), Failed>
+    ensures writes { Writes (K.written out.old) (K.written out.new) text.now result }
+    ensures cause { HasCause (K.faults out.old) (K.faults out.new) result }
+{
+    let mut at = 0;
+    while at < text.len() {
+        at += out.write(&text[at..])?;
+    }
+    Ok(())
+}
+
+/// Does a line of the script, and writes its text.
+pub(crate) fn do_line<K: Sink>(
+    alloc: Global,
+    line: &[u8],
+    number: u64,
+    session: &mut Session,
+    heap: &mut Heap,
+    out: &mut K,
+) -> Result<(), Stop>
+    requires number { number ≤ 16000000 }
+    requires line { length line.now ≤ 200 }
+    requires heap { HasHeap session.old heap.old }
+    ensures ends { (at : Progress) → StandsAt session.old heap.old at →
+        EndsLine at number line.now (K.written out.old) (K.written out.new) session.new heap.new result }
+    ensures later { K.faults out.old ≤ K.faults out.new }
+    ensures fault { IsErrOf result Stop.WriteFault → Rose (K.faults out.old) (K.faults out.new) }
+{
+    let item = match parse_line(line) {
+        Ok(item) => item,
+        Err(bad) => return Err(Stop::Malformed {
+            line: number,
+            reason: bad_reason(bad),
+        }),
+    };
+    let mut lines = Vec::new(alloc);
+    match session.item(heap, &item, &mut lines) {
+        Ok(()) => {}
+        Err(fault) => return Err(stop_of(number, fault)),
+    }
+    let mut text = Vec::new(alloc);
+    print_lines(&lines, &mut text)?;
+    match write_all(out, &text) {
+        Ok(()) => Ok(()),
+        Err(Failed) => Err(Stop::WriteFault),
+    }
+}
+
+/// The reason that is told where a line has no item.
+fn bad_reason(bad: BadLine) -> Reason
+    ensures { result ≡ bad_reason bad }
+{
+    match bad {
+        BadLine::Syntax => Reason::Syntax,
+        BadLine::Range => Reason::Range,
+    }
+}
+
+/// How a run stops where an item of a line is not done.
+fn stop_of(line: u64, fault: RunFault) -> Stop
+    ensures { result ≡ stop_of line fault }
+{
+    match fault {
+        RunFault::Malformed(reason) => Stop::Malformed { line, reason },
+        RunFault::OutOfMemory => Stop::OutOfMemory,
+    }
+}

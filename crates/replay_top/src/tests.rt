@@ -1,0 +1,241 @@
+//! What no clause says: that runs come to their ends with ample memory, and the texts that they write.
+
+use crate::{Heap, Status, run};
+use heap_io::{MemFiles, MemSink, NamedFile};
+use std::alloc::{AllocError, Global};
+use std::test::Fail;
+
+/// A script of the file `s`, and how `replay s` ends on it.
+struct Row {
+    script: &'static [u8],
+    out: &'static [u8],
+    err: &'static [u8],
+    status: Status,
+}
+
+/// What a run wrote and answered.
+#[derive(Drop)]
+struct Outcome {
+    status: Status,
+    out: Vec<u8>,
+    err: Vec<u8>,
+}
+
+/// Runs `replay s` on a script, where these calls of the files and of the sink fail.
+fn replayed(
+    alloc: Global,
+    script: &[u8],
+    read_fails: &[u64],
+    write_fails: &[u64],
+) -> Result<Outcome, AllocError> {
+    let mut named = Vec::new(alloc);
+    named.push(NamedFile {
+        name: Vec::from_slice(alloc, b"s")?,
+        bytes: Vec::from_slice(alloc, script)?,
+    })?;
+    let mut files = MemFiles::new(named, Vec::from_slice(alloc, read_fails)?);
+    let mut out = MemSink::new(alloc, 10_000, Vec::from_slice(alloc, write_fails)?)?;
+    let mut err = MemSink::new(alloc, 1000, Vec::new(alloc))?;
+    let mut heap = Heap::closed();
+    let mut words = Vec::new(alloc);
+    words.push(String::from_str(alloc, "replay")?)?;
+    words.push(String::from_str(alloc, "s")?)?;
+    let status = run(alloc, &words, &mut files, &mut out, &mut err, &mut heap);
+    Ok(Outcome {
+        status,
+        out: Vec::from_slice(alloc, out.written())?,
+        err: Vec::from_slice(alloc, err.written())?,
+    })
+}
+
+const ROWS: [Row; 26] = [
+    Row {
+        script: b"",
+        out: b"",
+        err: b"",
+        status: Status::Done,
+    },
+    Row {
+        script: b"type 1 fixed 1 0\nnew 0 1\nput 0 0 18446744073709551615\nget 0 0\n",
+        out: b"new 1 young\ngot 18446744073709551615\n",
+        err: b"",
+        status: Status::Done,
+    },
+    Row {
+        script: b"type 1 fixed 0 1\nnew 0 1\nload 1 0 0\nload 2 1 0\n",
+        out: b"new 1 young\nloaded nil\n",
+        err: b"malformed: line 4: NilRoot\n",
+        status: Status::Malformed,
+    },
+    Row {
+        script: b"type 1 fixed 1 0\nnew 0 1",
+        out: b"new 1 young\n",
+        err: b"",
+        status: Status::Done,
+    },
+    Row {
+        script: b"type 1 fixed 1 0\nnew 0 1\nget 0 00\n",
+        out: b"new 1 young\n",
+        err: b"malformed: line 3: Syntax\n",
+        status: Status::Malformed,
+    },
+    Row {
+        script: b"new 0 1\n",
+        out: b"",
+        err: b"malformed: line 1: NoType\n",
+        status: Status::Malformed,
+    },
+    Row {
+        script: b"type 1 fixed 0 0\nnew 256 1\n",
+        out: b"",
+        err: b"malformed: line 2: NoRoot\n",
+        status: Status::Malformed,
+    },
+    Row {
+        script: b"type 1 fixed 0 0\nnew 0 1 3\n",
+        out: b"",
+        err: b"malformed: line 2: WrongShape\n",
+        status: Status::Malformed,
+    },
+    Row {
+        script: b"type 1 ints\nnew 0 1 2\nput 0 2 1\n",
+        out: b"new 1 young\n",
+        err: b"malformed: line 3: NoItem\n",
+        status: Status::Malformed,
+    },
+    Row {
+        script: b"type 1 ints\nnew 0 1 16777217\n",
+        out: b"",
+        err: b"malformed: line 2: Range\n",
+        status: Status::Malformed,
+    },
+    Row {
+        script: b"type 1 fixed 1 0\nnew 0 1\nput 0 0 18446744073709551616\n",
+        out: b"new 1 young\n",
+        err: b"malformed: line 3: Syntax\n",
+        status: Status::Malformed,
+    },
+    Row {
+        script: b"set pins 1\nset pins 1\n",
+        out: b"",
+        err: b"malformed: line 2: SetTwice\n",
+        status: Status::Malformed,
+    },
+    Row {
+        script: b"set pins 1025\n",
+        out: b"",
+        err: b"malformed: line 1: SetRange\n",
+        status: Status::Malformed,
+    },
+    Row {
+        script: b"type 1 ints\ntype 1 refs\n",
+        out: b"",
+        err: b"malformed: line 2: TypeTwice\n",
+        status: Status::Malformed,
+    },
+    Row {
+        script: b"drop  0\n",
+        out: b"",
+        err: b"malformed: line 1: Syntax\n",
+        status: Status::Malformed,
+    },
+    Row {
+        script: b"type 1 fixed 1 0\nnew 0 1\nused\n",
+        out: b"new 1 young\n",
+        err: b"malformed: line 3: NotBuilt\n",
+        status: Status::Malformed,
+    },
+    Row {
+        script: b"set nursery 16\ntype 1 fixed 2 0\nnew 0 1\nnew 0 1\nnew 0 1\nnew 0 1\nnew 0 1\n",
+        out: b"new 1 young\nnew 2 young\nnew 3 young\nnew 4 young\n",
+        err: b"malformed: line 7: NotBuilt\n",
+        status: Status::Malformed,
+    },
+    Row {
+        script: b"type 1 fixed 1 0\nnew 0 1\nput 0 0 300\nget 0 0\n",
+        out: b"new 1 young\ngot 300\n",
+        err: b"",
+        status: Status::Done,
+    },
+    Row {
+        script: b"type 1 refs\ntype 2 fixed 1 1\nnew 0 1 3\nnew 1 2\nput 1 0 7\nlink 0 2 1\ndrop 1\nload 2 0 2\nget 2 0\nlink 0 2 9\nload 3 0 2\nsame 3 4\n",
+        out: b"new 1 young\nnew 2 young\nloaded 2\ngot 7\nloaded nil\nsame yes\n",
+        err: b"",
+        status: Status::Done,
+    },
+    Row {
+        script: b"set roots 2\ntype 3 ints\nnew 0 3 2\nmove 1 0\nput 1 1 5\nget 0 1\nsame 0 1\ndrop 0\nsame 0 1\nget 0 1\n",
+        out: b"new 1 young\ngot 5\nsame yes\nsame no\n",
+        err: b"malformed: line 10: NilRoot\n",
+        status: Status::Malformed,
+    },
+    Row {
+        script: b"type 1 fixed 1 0 destructor\n",
+        out: b"",
+        err: b"malformed: line 1: NotBuilt\n",
+        status: Status::Malformed,
+    },
+    Row {
+        script: b"set young 9\ntype 1 ints\nnew 0 1 6\nnew 0 1 7\n",
+        out: b"new 1 young\n",
+        err: b"malformed: line 4: NotBuilt\n",
+        status: Status::Malformed,
+    },
+    Row {
+        script: b"set limit 64\nset nursery 1000\ntype 1 ints\nnew 0 1 61\nnew 0 1 0\n",
+        out: b"new 1 young\n",
+        err: b"malformed: line 5: NotBuilt\n",
+        status: Status::Malformed,
+    },
+    Row {
+        script: b"type 1 ints\nnew 0 1 0\ntype 2 refs\n",
+        out: b"new 1 young\n",
+        err: b"malformed: line 3: Late\n",
+        status: Status::Malformed,
+    },
+    Row {
+        script: b"copyrefs 0 0 300 0 0\n",
+        out: b"",
+        err: b"malformed: line 1: NotBuilt\n",
+        status: Status::Malformed,
+    },
+    Row {
+        script: b"copyrefs 0 0 65536 0 0\n",
+        out: b"",
+        err: b"malformed: line 1: Range\n",
+        status: Status::Malformed,
+    },
+];
+
+#[test]
+fn scripts_end_as_told(rt: HostRuntime) -> Result<(), Fail> {
+    for row in &ROWS {
+        let got = replayed(rt.alloc(), row.script, &[], &[])?;
+        assert_eq!(rt; got.out.as_slice(), row.out);
+        assert_eq!(rt; got.err.as_slice(), row.err);
+        assert_eq!(rt; got.status, row.status);
+    }
+    Ok(())
+}
+
+/// A script of three lines that print, the last of them without LF.
+const PRINTING: &[u8] = b"type 1 fixed 1 0\nnew 0 1\nput 0 0 9\nget 0 0\nget 0 0";
+
+#[test]
+fn faults_end_a_run_where_they_come(rt: HostRuntime) -> Result<(), Fail> {
+    let got = replayed(rt.alloc(), PRINTING, &[], &[2])?;
+    assert_eq!(rt; got.status, Status::WriteFault);
+    assert_eq!(rt; got.out.as_slice(), b"new 1 young\n".as_slice());
+    assert_eq!(rt; got.err.as_slice(), b"write fault\n".as_slice());
+
+    let got = replayed(rt.alloc(), PRINTING, &[1], &[])?;
+    assert_eq!(rt; got.status, Status::ReadFault);
+    assert_eq!(rt; got.out.as_slice(), b"".as_slice());
+    assert_eq!(rt; got.err.as_slice(), b"read fault\n".as_slice());
+
+    // The whole lines of a piece are done before the next read, and of a line that breaks off nothing is.
+    let got = replayed(rt.alloc(), PRINTING, &[3], &[])?;
+    assert_eq!(rt; got.status, Status::ReadFault);
+    assert_eq!(rt; got.out.as_slice(), b"new 1 young\ngot 9\n".as_slice());
+    Ok(())
+}

@@ -1,0 +1,99 @@
+//! The top call: words in, a status out.
+ghost use Rattle.std.specs.Prelude.{◌≡◌, None, IfSome, IsTrue, option_copied, map, string_bytes};
+ghost use Rattle.std.specs.Option.{ForSome};
+ghost use Rattle.std.specs.Io.KnownBytes.{Keeps};
+ghost use Rattle.heap_io.specs.Causes.{Rose};
+ghost use Rattle.store_model.specs.ErrorText.{usage_text};
+ghost use Rattle.replay_top.specs.Parts.{closed_heap};
+ghost use Rattle.replay_top.specs.Top.{asked, stop_status, Tells, Replays, IsComplete};
+
+use crate::heap::Heap;
+use crate::line::Stop;
+use crate::script::replay;
+use crate::tell::{tell, tell_stop};
+use heap_io::{Files, Sink};
+use std::alloc::Global;
+
+/// How a run of the program ends. Its number is the status of the process.
+#[derive(Clone, Copy, Debug, PartialEq, Eq)]
+pub enum Status {
+    /// The script was read to its end, and the whole transcript is written.
+    Done = 0,
+    /// The words are none of the forms.
+    Usage = 1,
+    /// A line is refused.
+    Malformed = 2,
+    /// A request does not fit under the limit.
+    HeapLimit = 3,
+    OutOfMemory = 4,
+    ReadFault = 5,
+    WriteFault = 6,
+}
+
+/// Runs the program for its words, which are `replay FILE`: does the lines of the file one after another over a closed
+/// heap, writes the transcript to `out`, and on a stop before the script's end why it stopped to `err`.
+pub fn run<F: Files, K: Sink, E: Sink>(
+    alloc: Global,
+    words: &[String],
+    files: &mut F,
+    out: &mut K,
+    err: &mut E,
+    heap: &mut Heap,
+) -> Status
+    requires closed { heap.old ≡ closed_heap }
+    requires may_begin { ForSome (asked (map string_bytes words.now)) (λ name. IsTrue (F.may_begin files.old name)) }
+
+    // What stands when a script was replayed, by the status.
+    ensures replays { IfSome (asked (map string_bytes words.now)) (λ name.
+        Replays (F.bytes files.old name) (F.rest files.new) (K.written out.old) (K.written out.new)
+        (E.written err.old) (E.written err.new) (E.faults err.old) (E.faults err.new) heap.new result) }
+
+    // Other words change nothing, but that the usage is told.
+    ensures usage { asked (map string_bytes words.now) ≡ None → (result ≡ Status.Usage)
+        × Keeps (K.written out.old) (K.written out.new) × (heap.new ≡ closed_heap)
+        × Tells (E.written err.old) (E.written err.new) (E.faults err.old) (E.faults err.new) usage_text }
+
+    // A fault comes only where the count of faults of what was handed in rose.
+    ensures read { result ≡ Status.ReadFault → Rose (F.faults files.old) (F.faults files.new) }
+    ensures write { result ≡ Status.WriteFault → Rose (K.faults out.old) (K.faults out.new) }
+
+    // Where nothing stops the run, it comes to the script's end.
+    ensures complete { IfSome (asked (map string_bytes words.now)) (λ name.
+        IsComplete (F.bytes files.old name) (Rose (F.faults files.old) (F.faults files.new)) (Rose (K.faults out.old) (K.faults out.new)) result) }
+{
+    let Some(name) = asked(words) else {
+        tell(err, b"usage: replay FILE, or bench START COUNT\n");
+        return Status::Usage;
+    };
+    match replay(alloc, name, files, out, heap) {
+        Ok(()) => Status::Done,
+        Err(stop) => {
+            tell_stop(err, stop);
+            stop_status(stop)
+        }
+    }
+}
+
+/// The name of the file, where the words are `replay FILE`.
+fn asked(words: &[String]) -> Option<&[u8]>
+    ensures { option_copied result ≡ asked (map string_bytes words.now) }
+{
+    if words.len() != 2 {
+        return None;
+    }
+    if words[0].as_str() != "replay" {
+        return None;
+    }
+    Some(words[1].as_bytes())
+}
+
+fn stop_status(stop: Stop) -> Status
+    ensures { result ≡ stop_status stop }
+{
+    match stop {
+        Stop::Malformed { .. } => Status::Malformed,
+        Stop::OutOfMemory => Status::OutOfMemory,
+        Stop::ReadFault => Status::ReadFault,
+        Stop::WriteFault => Status::WriteFault,
+    }
+}

@@ -1,0 +1,186 @@
+//! A reader of lines over files.
+//!
+//! It is a piece of the file, of which the bytes that are not handed out yet are left, beside the
+//! number of lines handed out and whether the end was met. The end is kept, so that no read follows.
+ghost use Rattle.std.specs.Prelude.{◌≡◌, [], false, IfOk, IsErrOf};
+ghost use Rattle.std.specs.Io.KnownBytes.{prepend_known};
+ghost use Rattle.script_text.specs.Reader.{IsInStep};
+ghost use Rattle.script_text.specs.Reading.{HasReadCause, Reads};
+ghost use Rattle.script_text.specs.Taking.{TakesLine};
+
+use crate::piece::Piece;
+use heap_io::Files;
+use std::alloc::{AllocError, Global};
+use std::error::Error;
+use std::fmt;
+use std::marker::Model;
+
+const LF: u8 = b'\n';
+
+/// The greatest number of lines of a script.
+const MAX_LINES: u64 = 16_000_000;
+
+/// The greatest number of bytes of a line, without its LF.
+const MAX_LENGTH: usize = 200;
+
+/// Why no further line is read.
+#[derive(Clone, Copy, Debug, PartialEq, Eq)]
+pub enum ReadEnd {
+    /// 16,000,000 lines were read, and another begins.
+    TooMany,
+    /// The line has 201 bytes without an LF.
+    TooLong,
+    /// A read failed.
+    ReadFault,
+}
+
+impl fmt::Display for ReadEnd {
+    fn fmt<W: fmt::Write>(&self, f: &mut fmt::Formatter<W>) -> fmt::Result {
+        f.write_str(match self {
+            ReadEnd::TooMany => "too many lines",
+            ReadEnd::TooLong => "a line is too long",
+            ReadEnd::ReadFault => "a read failed",
+        })
+    }
+}
+
+impl Error for ReadEnd {}
+
+/// Reads a file line by line. The limits on a script's lines are this project's own.
+///
+/// Contracts see the bytes that were read and not handed out, the number of lines handed out, and
+/// whether the end was met.
+#[derive(Debug, Drop)]
+pub struct LineReader {
+    piece: Piece,
+    count: u64,
+    ended: bool,
+}
+
+impl Model for LineReader {
+    ghost use Rattle.std.specs.Prelude.{◌≤◌};
+    ghost use Rattle.script_text.specs.Reader.{ReaderState, line_limit};
+
+    ghost Value = { ReaderState };
+
+    ghost view = { λ r. record { held = r.piece; count = r.count; ended = r.ended } };
+
+    ghost invariant = { λ r. r.count ≤ line_limit };
+}
+
+impl LineReader {
+    /// A reader at the input's beginning. All its memory is taken here.
+    pub fn new(alloc: Global) -> Result<LineReader, AllocError>
+        ensures { IfOk result (λ reader. reader ≡ record { held = []; count = 0; ended = false }) }
+    {
+        Ok(LineReader {
+            piece: Piece::new(alloc)?,
+            count: 0,
+            ended: false,
+        })
+    }
+
+    /// The length of the next line, whose bytes are put into the front of `line`, or `None` at the
+    /// input's end. The LF at a line's end is no part of it, and a last line may have none.
+    ///
+    /// The reader is to be used over one file, and not after `None` or an error.
+    pub fn next<F: Files>(
+        &mut self,
+        files: &mut F,
+        line: &mut [u8; 200],
+    ) -> Result<Option<usize>, ReadEnd>
+        requires { IsInStep self.old (F.rest files.old) }
+        ensures reads { Reads self.old self.new (F.rest files.old) (F.rest files.new) line.new result }
+        ensures in_step { IsInStep self.new (F.rest files.new) }
+        ensures cause { HasReadCause (F.faults files.old) (F.faults files.new) result }
+        ensures bytes { F.bytes files.new ≡ F.bytes files.old }
+        ensures may_begin { F.may_begin files.new ≡ F.may_begin files.old }
+    {
+        if self.ended {
+            return Ok(None);
+        }
+        if self.count == MAX_LINES {
+            let Some(_) = self.piece.next_byte(files)? else {
+                self.ended = true;
+                return Ok(None);
+            };
+            return Err(ReadEnd::TooMany);
+        }
+        match take_line(&mut self.piece, files, line)? {
+            Taken::Whole(length) => {
+                self.count += 1;
+                Ok(Some(length))
+            }
+            Taken::Last(length) => {
+                self.count += 1;
+                self.ended = true;
+                Ok(Some(length))
+            }
+            Taken::Nothing => {
+                self.ended = true;
+                Ok(None)
+            }
+        }
+    }
+}
+
+/// What stood at the front of the rest of a file.
+#[derive(Clone, Copy, Debug, PartialEq, Eq)]
+enum Taken {
+    /// A line of this length, with its LF.
+    Whole(usize),
+    /// A line of this length, behind which the input ends.
+    Last(usize),
+    Nothing,
+}
+
+/// Takes the line at the front of the rest, with its LF.
+fn take_line<F: Files>(
+    piece: &mut Piece,
+    files: &mut F,
+    line: &mut [u8; 200],
+) -> Result<Taken, ReadEnd>
+    ensures taken { let before = prepend_known piece.old (F.rest files.old) in
+        let after = prepend_known piece.new (F.rest files.new) in
+        TakesLine before after line.new result }
+    ensures fault { IsErrOf result ReadEnd.ReadFault → piece.new ≡ [] }
+    ensures cause { HasReadCause (F.faults files.old) (F.faults files.new) result }
+    ensures bytes { F.bytes files.new ≡ F.bytes files.old }
+    ensures may_begin { F.may_begin files.new ≡ F.may_begin files.old }
+{
+    for length in 0..MAX_LENGTH {
+        match piece.next_byte(files)? {
+            None if length == 0 => return Ok(Taken::Nothing),
+            None => return Ok(Taken::Last(length)),
+            Some(LF) => return Ok(Taken::Whole(length)),
+            Some(byte) => line[length] = byte,
+        }
+    }
+    match piece.next_byte(files)? {
+        None => Ok(Taken::Last(MAX_LENGTH)),
+        Some(LF) => Ok(Taken::Whole(MAX_LENGTH)),
+        Some(_) => Err(ReadEnd::TooLong),
+    }
+}
+
+#[cfg(test)]
+mod tests {
+    use super::*;
+    use heap_io::SureFiles;
+    use std::test::Fail;
+
+    #[test]
+    fn reads_lines_and_a_last_one_without_lf(rt: HostRuntime) -> Result<(), Fail> {
+        let mut files = SureFiles::new(b"ab\n\ncd".to_vec(rt.alloc())?);
+        let mut reader = LineReader::new(rt.alloc())?;
+        let mut line = [0; 200];
+        files.begin_file(b"any")?;
+        assert_eq!(rt; reader.next(&mut files, &mut line), Ok(Some(2)));
+        assert_eq!(rt; &line[..2], b"ab".as_slice());
+        assert_eq!(rt; reader.next(&mut files, &mut line), Ok(Some(0)));
+        assert_eq!(rt; reader.next(&mut files, &mut line), Ok(Some(2)));
+        assert_eq!(rt; &line[..2], b"cd".as_slice());
+        assert_eq!(rt; reader.next(&mut files, &mut line), Ok(None));
+        Ok(())
+    }
+}
