@@ -34,7 +34,8 @@ in_range-below c h = rw h refl
 record ReadsCommand (words : List (List ℕ)) (c : Command) : Type 0 where
   reads : item_of (joined words) ≡ Ok (CommandItem c)
 
-read_by : (word : List ℕ) (words : List (List ℕ)) (read : Result Command BadLine) (c : Command) → is_keyword word ≡ true → are_words words ≡ true
+read_by : (word : List ℕ) (words : List (List ℕ)) (read : Result Command BadLine) (c : Command) → is_keyword word ≡ true
+    → are_words words ≡ true
     → form_of (word ∷ words) ≡ (read >>= as_item) → read ≡ Ok c → ReadsCommand (word ∷ words) c
 read_by word words read c key are form is = record { reads = item_of-joined word words key are ∙ form ∙ ap (λ r. r >>= as_item) is }
 
@@ -42,7 +43,8 @@ reads_bare : (word : List ℕ) (c : Command) → is_keyword word ≡ true → fo
     → is_above c ≡ false → ReadsCommand (word ∷ []) c
 reads_bare word c key form below = read_by word [] (no_numbers c []) c key refl form (in_range-below c below)
 
-reads_one : (word : List ℕ) (f : ℕ → Command) (a : ℕ) → is_keyword word ≡ true → ((words : List (List ℕ)) → form_of (word ∷ words) ≡ (with_one f words >>= as_item))
+reads_one : (word : List ℕ) (f : ℕ → Command) (a : ℕ) → is_keyword word ≡ true
+    → ((words : List (List ℕ)) → form_of (word ∷ words) ≡ (with_one f words >>= as_item))
     → is_above (f a) ≡ false → a < 2 ^ 64 → ReadsCommand (word ∷ decimals (a ∷ [])) (f a)
 reads_one word f a key form below small =
     read_by word (decimals (a ∷ [])) (with_one f (decimals (a ∷ []))) (f a) key (rw (is_word-decimal a small) refl) (form (decimals (a ∷ [])))

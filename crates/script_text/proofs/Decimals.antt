@@ -51,7 +51,8 @@ some_if true v n h = (refl, cc)
 some_if false v n h = cc
 
 -- what the digits of a number are
-digits_number-is : (ds : List ℕ) (n : ℕ) → 0 < length ds → (get_or ds 0 0 ≡ 48 → length ds ≡ 1) → digits_number ds ≡ Some n → (ds ≡ decimal n) × (n < 2 ^ 64)
+digits_number-is : (ds : List ℕ) (n : ℕ) → 0 < length ds → (get_or ds 0 0 ≡ 48 → length ds ≡ 1) → digits_number ds ≡ Some n
+    → (ds ≡ decimal n) × (n < 2 ^ 64)
 digits_number-is ds n some first h =
     let read = some_if (all_digits ds && nat_lt (value_of ds) (2 ^ 64)) (value_of ds) n h in
     let parts = and_parts (all_digits ds) (nat_lt (value_of ds) (2 ^ 64)) read.0 in

@@ -45,7 +45,8 @@ setting-read name value within small =
     item_of-joined (codes "set") (slice_index_or setting_names name [] ∷ decimals (value ∷ [])) refl (rw (is_word-name name within, is_word-decimal value small) refl)
     ∙ rw (setting_of-name name within, one_number-decimals value small) refl
 
-shape_words-text : (shape : Shape) (words : List (List ℕ)) → is_above_shape shape ≡ false → shape_words (shape_text shape ++ words) ≡ Ok (shape, words)
+shape_words-text : (shape : Shape) (words : List (List ℕ)) → is_above_shape shape ≡ false
+    → shape_words (shape_text shape ++ words) ≡ Ok (shape, words)
 unfolding shape_words
 shape_words-text (Fixed ints refs) words below =
     let p = or_parts (is_above_ids ints) (is_above_ids refs) below in
@@ -54,7 +55,8 @@ shape_words-text IntArray words below = refl
 shape_words-text RefArray words below = refl
 shape_words-text Weak words below = refl
 
-end_of_type-text : (shape : Shape) (destructor : Bool) → (shape ≡ Weak → destructor ≡ false) → end_of_type shape (destructor_text destructor) ≡ Ok destructor
+end_of_type-text : (shape : Shape) (destructor : Bool) → (shape ≡ Weak → destructor ≡ false)
+    → end_of_type shape (destructor_text destructor) ≡ Ok destructor
 end_of_type-text (Fixed ints refs) true weak = refl
 end_of_type-text (Fixed ints refs) false weak = refl
 end_of_type-text IntArray true weak = refl
@@ -68,7 +70,8 @@ are_words-destructor : (destructor : Bool) → are_words (destructor_text destru
 are_words-destructor true = refl
 are_words-destructor false = refl
 
-are_words-type : (shape : Shape) (destructor : Bool) → is_above_shape shape ≡ false → are_words (shape_text shape ++ destructor_text destructor) ≡ true
+are_words-type : (shape : Shape) (destructor : Bool) → is_above_shape shape ≡ false
+    → are_words (shape_text shape ++ destructor_text destructor) ≡ true
 are_words-type (Fixed ints refs) destructor below =
     let p = or_parts (is_above_ids ints) (is_above_ids refs) below in
     rw (is_word-decimal ints (id_small ints p.0), is_word-decimal refs (id_small refs p.1)) (are_words-destructor destructor)
@@ -76,7 +79,8 @@ are_words-type IntArray destructor below = are_words-destructor destructor
 are_words-type RefArray destructor below = are_words-destructor destructor
 are_words-type Weak destructor below = are_words-destructor destructor
 
-type-read : (number : ℕ) (info : TypeInfo) → IsTypeInRange number info → item_of (item_text (TypeDef number info)) ≡ Ok (TypeDef number info)
+type-read : (number : ℕ) (info : TypeInfo) → IsTypeInRange number info
+    → item_of (item_text (TypeDef number info)) ≡ Ok (TypeDef number info)
 unfolding form_of type_form
 type-read number info is =
     let small = id_small number is.id_below in
@@ -113,5 +117,6 @@ pub says_its_item : (line : List ℕ) (item : Item) → (item_of line ≡ Ok ite
 says_its_item line item = (item_of-is line item, line-read item line)
 
 -- the same of an answer
-pub answers_its_item : (line : List ℕ) (result : Result Item BadLine) → result ≡ item_of line → (item : Item) → (result ≡ Ok item) ↔ IsLineOf item line
+pub answers_its_item : (line : List ℕ) (result : Result Item BadLine) → result ≡ item_of line → (item : Item)
+    → (result ≡ Ok item) ↔ IsLineOf item line
 answers_its_item line result is item = rw is (says_its_item line item)

@@ -48,7 +48,8 @@ place_of-is word (name ∷ names) place h =
       | inr e ↦ next_place word name names (place_of word names) place (place_of-is word names) (rw e at h)
     ]
 
-setting_with-is : (o : Option ℕ) (word : List ℕ) (words : List (List ℕ)) (item : Item) → ((k : ℕ) → o ≡ Some k → IsPlaceOf word setting_names k)
+setting_with-is : (o : Option ℕ) (word : List ℕ) (words : List (List ℕ)) (item : Item)
+    → ((k : ℕ) → o ≡ Some k → IsPlaceOf word setting_names k)
     → setting_with o words ≡ Ok item → IsItemSpelled (codes "set" ∷ word ∷ words) item
 setting_with-is None word words item found h = cc
 setting_with-is (Some name) word words item found h =
@@ -74,7 +75,8 @@ destructor_word-is (word ∷ words) d h =
     let given : true ≡ d = cc in
     ap (λ ws. codes "destructor" ∷ ws) (no_word-is words end none) ∙ ap destructor_text given)) (λ h. cc)
 
-end_of_type-is : (shape : Shape) (words : List (List ℕ)) (d : Bool) → end_of_type shape words ≡ Ok d → (words ≡ destructor_text d) × (shape ≡ Weak → d ≡ false)
+end_of_type-is : (shape : Shape) (words : List (List ℕ)) (d : Bool) → end_of_type shape words ≡ Ok d
+    → (words ≡ destructor_text d) × (shape ≡ Weak → d ≡ false)
 end_of_type-is (Fixed ints refs) words d h = (destructor_word-is words d h, λ e. cc)
 end_of_type-is IntArray words d h = (destructor_word-is words d h, λ e. cc)
 end_of_type-is RefArray words d h = (destructor_word-is words d h, λ e. cc)
@@ -83,7 +85,8 @@ end_of_type-is Weak words d h =
     let given : false ≡ d = cc in
     (no_word-is words end none ∙ ap destructor_text given, λ e. sym given))
 
-fixed_shape-is : (words : List (List ℕ)) (read : Shape × List (List ℕ)) → fixed_shape words ≡ Ok read → codes "fixed" ∷ words ≡ shape_text read.0 ++ read.1
+fixed_shape-is : (words : List (List ℕ)) (read : Shape × List (List ℕ)) → fixed_shape words ≡ Ok read
+    → codes "fixed" ∷ words ≡ shape_text read.0 ++ read.1
 fixed_shape-is words read h =
     both_gave _ (number_word words) _ read h (λ ints first more.
     both_gave _ (number_word ints.1) _ read more (λ refs second same.

@@ -13,7 +13,8 @@ are_words [] = true
 are_words (word ∷ words) = is_word word && are_words words
 
 -- the words of the line are the words
-pub words_of-joined : (word : List ℕ) (words : List (List ℕ)) → are_words (word ∷ words) ≡ true → words_of (joined (word ∷ words)) ≡ word ∷ words
+pub words_of-joined : (word : List ℕ) (words : List (List ℕ)) → are_words (word ∷ words) ≡ true
+    → words_of (joined (word ∷ words)) ≡ word ∷ words
 words_of-joined word [] h = words_of-last word (and_parts (is_word word) true h).0
 words_of-joined word (next ∷ words) h =
     let parts = and_parts (is_word word) (are_words (next ∷ words)) h in
@@ -39,10 +40,12 @@ abbrev pub is_keyword : List ℕ → Bool
 is_keyword [] = false
 is_keyword (b ∷ word) = not (b == 35) && is_word (b ∷ word)
 
-pub item_of-joined : (word : List ℕ) (words : List (List ℕ)) → is_keyword word ≡ true → are_words words ≡ true → item_of (joined (word ∷ words)) ≡ form_of (word ∷ words)
+pub item_of-joined : (word : List ℕ) (words : List (List ℕ)) → is_keyword word ≡ true → are_words words ≡ true
+    → item_of (joined (word ∷ words)) ≡ form_of (word ∷ words)
 unfolding item_of
 item_of-joined [] words h are = cc
 item_of-joined (b ∷ word) words h are =
     let parts = and_parts (not (b == 35)) (is_word (b ∷ word)) h in
-    ap item_of (joined-first b word words)
-    ∙ rw (not-true (b == 35) parts.0) (ap form_of (ap words_of (sym (joined-first b word words)) ∙ words_of-joined (b ∷ word) words (and_from (is_word (b ∷ word)) (are_words words) parts.1 are)))
+    let all : are_words ((b ∷ word) ∷ words) ≡ true = and_from (is_word (b ∷ word)) (are_words words) parts.1 are in
+    let first = joined-first b word words in
+    ap item_of first ∙ rw (not-true (b == 35) parts.0) (ap form_of (ap words_of (sym first) ∙ words_of-joined (b ∷ word) words all))

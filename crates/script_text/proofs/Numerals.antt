@@ -3,14 +3,15 @@ use Rattle.std.proofs.Common.{◌≡◌, ℕ, ◌+◌, ◌-◌, ◌*◌, ◌^◌
 use Rattle.std.specs.Prelude.{nat_lt, ◌&&◌, ◌==◌}
 use Rattle.std.proofs.Math.Nat.{pow-suc, mul-le-mul_left}
 use Rattle.std.proofs.Math.ListN.{drop_of_length-le}
-use Rattle.std.proofs.lemmas.Bool.{and_left, and_right, le-ltb, lt-ltb}
+use Rattle.std.proofs.lemmas.Bool.{and_right, le-ltb, lt-ltb}
 use Rattle.store_model.specs.Numbers.{is_digit, all_digits, value_of, digits_number, number_of}
 
 regroup : (v d p r : ℕ) → (v * 10 + d) * p + r ≡ v * (p * 10) + (d * p + r)
 regroup v d p r = grind arith
 
 -- one digit more is read
-value_of-step : (v b : ℕ) (rest : List ℕ) → (v * 10 + (b - 48)) * 10 ^ length rest + value_of rest ≡ v * 10 ^ length (b ∷ rest) + value_of (b ∷ rest)
+value_of-step : (v b : ℕ) (rest : List ℕ)
+    → (v * 10 + (b - 48)) * 10 ^ length rest + value_of rest ≡ v * 10 ^ length (b ∷ rest) + value_of (b ∷ rest)
 value_of-step v b rest =
     regroup v (b - 48) (10 ^ length rest) (value_of rest)
     ∙ ap (λ p. v * p + ((b - 48) * 10 ^ length rest + value_of rest)) (sym (pow-suc 10 (length rest)))
@@ -26,9 +27,6 @@ value_of-above v rest all e = omega (arith, mul-le-mul_left v (power_above (leng
 digits_number-large : (word : List ℕ) → 2 ^ 64 ≤ value_of word → digits_number word ≡ None
 digits_number-large word large =
     rw (and_right (all_digits word) (nat_lt (value_of word) (2 ^ 64)) (le-ltb (value_of word) (2 ^ 64) large)) refl
-
-pub digits_number-bad : (word : List ℕ) → all_digits word ≡ false → digits_number word ≡ None
-digits_number-bad word bad = rw (and_left (all_digits word) (nat_lt (value_of word) (2 ^ 64)) bad) refl
 
 pub digits_number-good : (word : List ℕ) → all_digits word ≡ true → value_of word < 2 ^ 64 → digits_number word ≡ Some (value_of word)
 digits_number-good word good small = rw (good, lt-ltb (value_of word) (2 ^ 64) small) refl
@@ -48,7 +46,8 @@ number_of-other : (b c : ℕ) (bytes : List ℕ) → (b == 48) ≡ false → num
 unfolding number_of
 number_of-other b c bytes e = rw e refl
 
-pub number_of-digits : (word : List ℕ) → 0 < length word → ((get_or word 0 0 == 48) && nat_lt 1 (length word)) ≡ false → number_of word ≡ digits_number word
+pub number_of-digits : (word : List ℕ) → 0 < length word → ((get_or word 0 0 == 48) && nat_lt 1 (length word)) ≡ false
+    → number_of word ≡ digits_number word
 unfolding number_of
 number_of-digits [] some e = absurd (omega arith)
 number_of-digits (b ∷ []) some e = refl
@@ -61,11 +60,9 @@ digit_read v i ds within e =
     rw add-one (value_of-step v (get_or ds i 0) (drop (suc i) ds)
     ∙ sym (ap (λ (l : List ℕ). v * 10 ^ length l + value_of l) (drop-cons ds i 0 within)) ∙ e)
 
-pub digit_passes : (i : ℕ) (ds : List ℕ) → i < length ds → is_digit (get_or ds i 0) ≡ true → all_digits (drop (i + 1) ds) ≡ all_digits (drop i ds)
+pub digit_passes : (i : ℕ) (ds : List ℕ) → i < length ds → is_digit (get_or ds i 0) ≡ true
+    → all_digits (drop (i + 1) ds) ≡ all_digits (drop i ds)
 digit_passes i ds within e = rw (add-one, drop-cons ds i 0, e) refl
-
-pub digit_fails : (i : ℕ) (ds : List ℕ) → i < length ds → is_digit (get_or ds i 0) ≡ false → all_digits (drop i ds) ≡ false
-digit_fails i ds within e = rw (drop-cons ds i 0, e) refl
 
 -- where the digits so far exceed 64 bits, so does the number
 pub overflows : (v i : ℕ) (ds : List ℕ) → i < length ds → v * 10 ^ length (drop i ds) + value_of (drop i ds) ≡ value_of ds

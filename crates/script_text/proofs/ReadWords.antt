@@ -50,13 +50,15 @@ five_numbers-decimals a b c d e first second third fourth fifth =
       three_numbers-decimals c d e third fourth fifth,
     ) refl
 
-number_or_syntax-is : (o : Option ℕ) (words : List (List ℕ)) (read : ℕ × List (List ℕ)) → number_or_syntax o words ≡ Ok read → (o ≡ Some read.0) × (words ≡ read.1)
+number_or_syntax-is : (o : Option ℕ) (words : List (List ℕ)) (read : ℕ × List (List ℕ)) → number_or_syntax o words ≡ Ok read
+    → (o ≡ Some read.0) × (words ≡ read.1)
 number_or_syntax-is None words read h = cc
 number_or_syntax-is (Some n) words read h =
     let same : (n, words) ≡ read = cc in
     (ap (λ x. Some x.0) same, ap (λ x. x.1) same)
 
-pub number_word-is : (words : List (List ℕ)) (read : ℕ × List (List ℕ)) → number_word words ≡ Ok read → (words ≡ decimal read.0 ∷ read.1) × (read.0 < 2 ^ 64)
+pub number_word-is : (words : List (List ℕ)) (read : ℕ × List (List ℕ)) → number_word words ≡ Ok read
+    → (words ≡ decimal read.0 ∷ read.1) × (read.0 < 2 ^ 64)
 number_word-is [] read h = cc
 number_word-is (word ∷ words) read h =
     let parts = number_or_syntax-is (number_of word) words read h in

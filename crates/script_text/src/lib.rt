@@ -1,4 +1,5 @@
-//! The lines of a script: read one after another from a file, and each as an item.
+//! The lines of a script: read one after another from a file, each as an item, and commands written as lines. A line is
+//! read word by word from its front, and each command has one line, which is read as that command.
 #![tactic(auto)]
 
 mod commands;
