@@ -13,6 +13,7 @@ pub mod Range
 pub mod Checks
 pub mod StructChecks
 pub mod Structs
+pub mod Look
 pub mod Links
 pub mod Refusal
 pub mod Transcript
