@@ -6,6 +6,9 @@ pub mod Object
 pub mod Store
 pub mod Slots
 pub mod Birth
+pub mod Layout
+pub mod ObjectWords
+pub mod Holds
 pub mod Steps
 pub mod Progress
 pub mod Shapes
