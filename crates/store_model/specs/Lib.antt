@@ -16,6 +16,8 @@ pub mod Range
 pub mod Checks
 pub mod StructChecks
 pub mod Structs
+pub mod Roots
+pub mod Sound
 pub mod Look
 pub mod Links
 pub mod Refusal
