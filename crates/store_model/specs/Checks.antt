@@ -1,5 +1,5 @@
 -- Checks that refuse a line, each over just what it looks at.
-use Rattle.std.specs.Prelude.{ℕ, ◌+◌, Bool, true, ◌&&◌, ◌||◌, not, nat_lt, nat_le, is_some, is_none, List, [], ◌∷◌, Option, Some, None, slice_get, if◌then◌else◌}
+use Rattle.std.specs.Prelude.{ℕ, ◌+◌, ◌≤◌, Bool, true, ◌&&◌, ◌||◌, not, nat_lt, nat_le, is_some, is_none, List, [], ◌∷◌, Option, Some, None, slice_get, if◌then◌else◌}
 use Rattle.type_table.specs.declared.info.Shape.{Shape}
 use Rattle.type_table.specs.declared.info.TypeInfo.{TypeInfo}
 use Rattle.type_table.specs.Words.{words_in}
@@ -29,6 +29,22 @@ ranges =
 abbrev pub is_outside : Option (ℕ × ℕ) → ℕ → Bool
 is_outside None value = true
 is_outside (Some range) value = nat_lt value range.0 || nat_lt range.1 value
+
+-- each setting lies in its range
+pub record AreInRange (settings : Settings) : Type 0 where
+  pub nursery : (16 ≤ settings.nursery) × (settings.nursery ≤ 1048576)
+  pub young : (8 ≤ settings.young) × (settings.young ≤ 1048576)
+  pub limit : (64 ≤ settings.limit) × (settings.limit ≤ 16777216)
+  pub increment : (1 ≤ settings.increment) × (settings.increment ≤ 1048576)
+  pub minimum : (1 ≤ settings.minimum) × (settings.minimum ≤ 16777216)
+  pub sweep : (1 ≤ settings.sweep) × (settings.sweep ≤ 65536)
+  pub pins : settings.pins ≤ 1024
+  pub page : (64 ≤ settings.page) × (settings.page ≤ 8192)
+  pub arena : (1 ≤ settings.arena) × (settings.arena ≤ 1024)
+  pub small : (2 ≤ settings.small) × (settings.small ≤ 4096)
+  pub card : (1 ≤ settings.card) × (settings.card ≤ 65536)
+  pub roots : (1 ≤ settings.roots) × (settings.roots ≤ 65536)
+  pub queues : (1 ≤ settings.queues) × (settings.queues ≤ 256)
 
 -- of a setting: whether a command came, whether its name was set, its number and its value
 abbrev pub setting_checks : Bool → Bool → ℕ → ℕ → Checks

@@ -1,0 +1,52 @@
+-- What the calls of a heap find in its parts, and what they make of them.
+use Rattle.std.specs.Prelude.{◌≡◌, ℕ, ◌+◌, ◌<◌, ◌≤◌, length, slice_set, IsTrue}
+use Rattle.type_table.specs.declared.info.TypeInfo.{TypeInfo}
+use Rattle.type_table.specs.Words.{words_in}
+use Rattle.heap_space.specs.Places.{with_word, with_run, lies_in_one}
+use Rattle.object_view.specs.Views.{HasObject}
+use Rattle.object_view.specs.Births.{born_words}
+use Rattle.store_model.specs.ObjectWords.{layout_at}
+use Rattle.store_model.specs.Layout.{Layout}
+use Rattle.heap_core.specs.Parts.{HeapParts}
+use Rattle.heap_core.specs.Told.{word_in, place_in}
+
+-- where the parts of the object in a slot lie
+abbrev pub layout_in : HeapParts → ℕ → Layout
+layout_in heap root = layout_at heap.setup.types (word_in heap) (place_in heap root)
+
+-- the place of a whole number of the object in a slot
+abbrev pub int_place : HeapParts → ℕ → ℕ → ℕ
+int_place heap root item = (layout_in heap root).int_start + item
+
+-- the place of a reference of the object in a slot
+abbrev pub ref_place : HeapParts → ℕ → ℕ → ℕ
+ref_place heap root item = (layout_in heap root).ref_start + item
+
+-- the heap with this word at a place
+abbrev pub with_word_at : HeapParts → ℕ → ℕ → HeapParts
+with_word_at heap place word = record heap { memory = record heap.memory { blocks = with_word heap.memory.blocks place word } }
+
+-- the heap with this place in a slot
+abbrev pub with_slot : HeapParts → ℕ → ℕ → HeapParts
+with_slot heap root place = record heap { slots = slice_set heap.slots root place }
+
+-- a slot leads to a whole object
+pub record HasObjectIn (heap : HeapParts) (root : ℕ) : Type 0 where
+  pub slot : root < length heap.slots
+  pub object : HasObject heap.memory heap.setup.types (place_in heap root)
+
+-- the heap with a new object behind all others in the nursery, and in a slot
+abbrev pub born : HeapParts → ℕ → ℕ → TypeInfo → ℕ → HeapParts
+born heap root type_id info items = record heap {
+  memory = record heap.memory { blocks = with_run heap.memory.blocks heap.free (born_words info.shape type_id heap.next items) };
+  free = heap.free + words_in info.shape items;
+  slots = slice_set heap.slots root heap.free;
+  next = heap.next + 1;
+  unsettled = heap.unsettled + words_in info.shape items;
+}
+
+-- there is room for a birth
+pub record HasRoom (heap : HeapParts) (root : ℕ) (info : TypeInfo) (items : ℕ) : Type 0 where
+  pub slot : root < length heap.slots
+  pub items_few : items ≤ 16777216
+  pub words : IsTrue (lies_in_one heap.memory.blocks heap.free (words_in info.shape items))

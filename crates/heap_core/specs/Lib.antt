@@ -1,0 +1,5 @@
+pub mod Parts
+pub mod Told
+pub mod StandsFor
+pub mod Effects
+pub mod Commands
