@@ -4,3 +4,6 @@ pub mod SoundLaws
 pub mod ToldLaws
 pub mod Sums
 pub mod StandLaws
+pub mod Ready
+pub mod Commands
+pub mod Calls

@@ -91,7 +91,7 @@ pub pointer-some : (met : List ℕ) (place : ℕ) → IsPointer met place → pl
 pointer-some met place (inl e) ne = absurd (ne e)
 pointer-some met place (inr t) ne = t
 
-refs-from : (types : Table TypeInfo) (name word : ℕ → ℕ) (p : ℕ) → (object_from types name word p).refs
+pub refs-from : (types : Table TypeInfo) (name word : ℕ → ℕ) (p : ℕ) → (object_from types name word p).refs
     ≡ map (renamed name) (words_from word (layout_at types word p).ref_start (layout_at types word p).ref_count)
 unfolding object_from
 refs-from types name word p = refl

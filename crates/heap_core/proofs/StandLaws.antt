@@ -60,7 +60,7 @@ slots-set {slots = slots} {places = places} {name = name} root place holds point
 }
 
 -- the soundness of a store that is known by its parts
-sound-by : {types : Table TypeInfo} {word name : ℕ → ℕ} {places : List ℕ} (settings : Settings) (store : Store) (next : ℕ) (slots : List ℕ)
+pub sound-by : {types : Table TypeInfo} {word name : ℕ → ℕ} {places : List ℕ} (settings : Settings) (store : Store) (next : ℕ) (slots : List ℕ)
     → HoldsObjects types word places places name store.kept → HoldsSlots slots places name settings.roots store.slots
     → store.next ≡ next → RiseBetween 1 (map name places) next → store ≡ plain_store settings store.next store.kept store.slots
     → IsSound settings store

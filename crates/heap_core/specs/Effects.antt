@@ -1,5 +1,5 @@
 -- What the calls of a heap find in its parts, and what they make of them.
-use Rattle.std.specs.Prelude.{◌≡◌, ℕ, ◌+◌, ◌<◌, ◌≤◌, length, slice_set, IsTrue}
+use Rattle.std.specs.Prelude.{◌≡◌, ℕ, ◌+◌, ◌^◌, ◌<◌, ◌≤◌, ◌==◌, if◌then◌else◌, length, slice_set, IsTrue, Option, Some, None}
 use Rattle.type_table.specs.declared.info.TypeInfo.{TypeInfo}
 use Rattle.type_table.specs.Words.{words_in}
 use Rattle.heap_space.specs.Places.{with_word, with_run, lies_in_one}
@@ -30,6 +30,10 @@ with_word_at heap place word = record heap { memory = record heap.memory { block
 abbrev pub with_slot : HeapParts → ℕ → ℕ → HeapParts
 with_slot heap root place = record heap { slots = slice_set heap.slots root place }
 
+-- the birth of the object at a place, None where it is 0
+abbrev pub birth_read : (ℕ → ℕ) → ℕ → Option ℕ
+birth_read word place = if place == 0 then None else Some (word (place + 1))
+
 -- a slot leads to a whole object
 pub record HasObjectIn (heap : HeapParts) (root : ℕ) : Type 0 where
   pub slot : root < length heap.slots
@@ -50,3 +54,6 @@ pub record HasRoom (heap : HeapParts) (root : ℕ) (info : TypeInfo) (items : �
   pub slot : root < length heap.slots
   pub items_few : items ≤ 16777216
   pub words : IsTrue (lies_in_one heap.memory.blocks heap.free (words_in info.shape items))
+  pub free_small : heap.free + words_in info.shape items < 2 ^ 63
+  pub next_small : heap.next < 2 ^ 63
+  pub unsettled_small : heap.unsettled + words_in info.shape items < 2 ^ 63

@@ -3,3 +3,4 @@ pub mod Told
 pub mod StandsFor
 pub mod Effects
 pub mod Commands
+pub mod Seen

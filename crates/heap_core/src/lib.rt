@@ -2,5 +2,8 @@
 #![tactic(auto)]
 
 mod fault;
+mod heap;
+mod parts;
 
 pub use fault::HeapFault;
+pub use heap::Heap;
