@@ -5,3 +5,7 @@ pub mod ViewLaws
 pub mod InitLaws
 pub mod ChangeLaws
 pub mod FieldLaws
+pub mod FoundLaws
+pub mod FrameLaws
+pub mod BirthLaws
+pub mod NewbornLaws
