@@ -9,3 +9,6 @@ pub mod FoundLaws
 pub mod FrameLaws
 pub mod BirthLaws
 pub mod NewbornLaws
+pub mod CopyLaws
+pub mod MoveLaws
+pub mod SurvivorLaws
