@@ -11,4 +11,6 @@ pub mod BirthLaws
 pub mod NewbornLaws
 pub mod CopyLaws
 pub mod MoveLaws
+pub mod LeaveLaws
+pub mod ForwardLaws
 pub mod SurvivorLaws
