@@ -103,7 +103,7 @@ room-apart {types = types} {w = w} {p = p} {a = a} room =
       | inr out ↦ inl out
     ]
 
-outside-room : {types : Table TypeInfo} {w : ℕ → ℕ} {met places : List ℕ} {p a : ℕ} (q b : ℕ) → HasFreeRoom types w met places p a
+pub outside-room : {types : Table TypeInfo} {w : ℕ → ℕ} {met places : List ℕ} {p a : ℕ} (q b : ℕ) → HasFreeRoom types w met places p a
     → IsTrue (is_in q places) → Covers types w q b → (b < a) ⊎ (a + words_at types w p ≤ b)
 outside-room {types = types} {w = w} {p = p} {a = a} q b room t c = elim (cases_lt b a) [
   | inl low ↦ inl low

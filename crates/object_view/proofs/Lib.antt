@@ -13,4 +13,5 @@ pub mod CopyLaws
 pub mod MoveLaws
 pub mod LeaveLaws
 pub mod ForwardLaws
+pub mod MovingLaws
 pub mod SurvivorLaws
