@@ -14,4 +14,5 @@ pub mod MoveLaws
 pub mod LeaveLaws
 pub mod ForwardLaws
 pub mod MovingLaws
+pub mod WholeLaws
 pub mod SurvivorLaws

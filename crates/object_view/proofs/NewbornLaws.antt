@@ -114,15 +114,15 @@ pub record BornAt (types : Table TypeInfo) (v w : ℕ → ℕ) (a t birth len : 
   pub small : t < 65536
   pub run : WithRun v w a (born_words info.shape t birth len)
 
-born-first : {types : Table TypeInfo} {v w : ℕ → ℕ} {a t birth len : ℕ} {info : TypeInfo} → BornAt types v w a t birth len info → v a ≡ t
+pub born-first : {types : Table TypeInfo} {v w : ℕ → ℕ} {a t birth len : ℕ} {info : TypeInfo} → BornAt types v w a t birth len info → v a ≡ t
 born-first {a = a} {t = t} {birth = birth} {len = len} {info = info} b =
     born-at 0 a t b.run (omega (arith, length-born_words info.shape t birth len, two-words info.shape len)) (omega arith) refl
 
-born-second : {types : Table TypeInfo} {v w : ℕ → ℕ} {a t birth len : ℕ} {info : TypeInfo} → BornAt types v w a t birth len info → v (a + 1) ≡ birth
+pub born-second : {types : Table TypeInfo} {v w : ℕ → ℕ} {a t birth len : ℕ} {info : TypeInfo} → BornAt types v w a t birth len info → v (a + 1) ≡ birth
 born-second {a = a} {t = t} {birth = birth} {len = len} {info = info} b =
     born-at 1 (a + 1) birth b.run (omega (arith, length-born_words info.shape t birth len, two-words info.shape len)) refl refl
 
-born-type : {types : Table TypeInfo} {v w : ℕ → ℕ} {a t birth len : ℕ} {info : TypeInfo} → BornAt types v w a t birth len info → type_id_at v a ≡ t
+pub born-type : {types : Table TypeInfo} {v w : ℕ → ℕ} {a t birth len : ℕ} {info : TypeInfo} → BornAt types v w a t birth len info → type_id_at v a ≡ t
 born-type b = ap (λ x. x % 65536) (born-first b) ∙ mod-eq_of_lt b.small
 
 pub born-info : {types : Table TypeInfo} {v w : ℕ → ℕ} {a t birth len : ℕ} {info : TypeInfo} → BornAt types v w a t birth len info → info_at types v a ≡ info
