@@ -5,3 +5,14 @@ pub mod ViewLaws
 pub mod InitLaws
 pub mod ChangeLaws
 pub mod FieldLaws
+pub mod FoundLaws
+pub mod FrameLaws
+pub mod BirthLaws
+pub mod NewbornLaws
+pub mod CopyLaws
+pub mod MoveLaws
+pub mod LeaveLaws
+pub mod ForwardLaws
+pub mod MovingLaws
+pub mod WholeLaws
+pub mod SurvivorLaws
