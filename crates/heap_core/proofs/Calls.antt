@@ -1,13 +1,16 @@
 -- A call of a heap by what its state is: closed, started or spent.
-use Rattle.std.proofs.Common.{◌≡◌, ◌⊎◌, refl, sym, ap, ◌∙◌, subst, inl, inr}
+use Rattle.std.proofs.Common.{◌≡◌, ◌⊎◌, Option, Some, None, refl, sym, ap, ◌∙◌, subst, inl, inr}
 use Rattle.store_model.specs.declared.command.Command.{Command}
+use Rattle.std.specs.Prelude.{IsSome}
 use Rattle.store_model.specs.Store.{Store}
+use Rattle.store_model.specs.Look.{look}
 use Rattle.heap_core.specs.declared.heap.State.{State}
 use Rattle.heap_core.specs.declared.heap.State.TheVariants.{Closed, Started, Spent}
 use Rattle.heap_core.specs.Parts.{HeapParts, HeapSeen, heap_of, spent_heap}
 use Rattle.heap_core.specs.Seen.{seen}
-use Rattle.heap_core.specs.StandsFor.{StandsFor, PartsStandFor}
-use Rattle.heap_core.specs.Commands.{AreReady, CanDo, Changes}
+use Rattle.heap_core.specs.StandsFor.{StandsFor, StandsForIf, PartsStandFor}
+use Rattle.heap_core.specs.Commands.{AreStanding, AreReady, IsStanding, CanDo, Changes, told_if, told_by}
+use Rattle.heap_core.proofs.ToldLaws.{look-told}
 
 -- what is seen of a heap in a state
 pub in_state : (now : HeapSeen) (inside state : State) → seen inside ≡ now → inside ≡ state → now ≡ seen state
@@ -45,3 +48,13 @@ nothing_idle now inside command store (inl is) view can stands =
     absurd (subst (λ (h : HeapSeen). CanDo h command) (in_state now inside Closed view is) can)
 nothing_idle now inside command store (inr is) view can stands =
     absurd (subst (λ (h : HeapSeen). StandsFor h store) (in_state now inside Spent view is) stands)
+
+-- what a heap that stands for some store is: the parts of a started one
+pub standing_of : (now : HeapSeen) (parts : HeapParts) → now ≡ heap_of parts → IsStanding now → AreStanding parts
+standing_of now parts is standing = subst IsStanding is standing
+
+-- a look at a store that a heap stands for sees what the heap tells
+pub look_told : (heap : HeapSeen) (store : Store) (parts : Option HeapParts) → heap.parts ≡ parts → IsSome parts → StandsFor heap store → look store ≡ told_by heap
+look_told heap store None is some stands = absurd (let no : ⊥ = cc in no)
+look_told heap store (Some parts) is some stands =
+    look-told parts store (subst (λ (found : Option HeapParts). StandsForIf found heap.is_spent store) is stands) ∙ ap told_if (sym is)

@@ -204,12 +204,14 @@ started_stands settings types ranges =
       name = name;
       objects = objects;
       whole = λ p t. nothing p t;
-      nursery = record { young = []; walk = refl; young_are = λ p. refl; room = omega (arith, ranges.nursery.0); whole = nursery-whole settings.nursery };
+      nursery = record { walk = refl; room = omega (arith, ranges.nursery.0); whole = nursery-whole settings.nursery };
       slots = slots;
       next = refl;
       next_high = lit< tt;
       births = omega arith;
       unsettled = refl;
+      limit = omega arith;
+      ranges = ranges;
       arena = refl;
       others = refl;
       sound = sound-by settings (empty_store settings) 1 heap.slots objects slots refl (omega arith) refl;

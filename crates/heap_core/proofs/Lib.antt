@@ -7,3 +7,4 @@ pub mod StandLaws
 pub mod Ready
 pub mod Commands
 pub mod Calls
+pub mod BirthLaws

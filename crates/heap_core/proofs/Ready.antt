@@ -4,19 +4,22 @@ use Rattle.std.specs.Prelude.{not, nat_lt, nat_le, ◌||◌, ◌==◌, if◌then
 use Rattle.std.proofs.lemmas.Bool.{ltb-false, leb-false}
 use Rattle.std.proofs.lemmas.Bool.Decides.{eqb_tells}
 use Rattle.type_table.specs.declared.info.TypeInfo.{TypeInfo}
-use Rattle.type_table.specs.Table.{Table}
-use Rattle.store_model.specs.declared.command.Command.TheVariants.{Put, Get, Link, Load, MoveRoot, DropRoot}
+use Rattle.type_table.specs.Table.{Table, value_at}
+use Rattle.store_model.specs.declared.command.Command.TheVariants.{NewFixed, NewArray, Put, Get, Link, Load, MoveRoot, DropRoot}
 use Rattle.store_model.specs.declared.kind.Kind.{Kind}
 use Rattle.store_model.specs.declared.item.Reason.{Reason}
 use Rattle.store_model.specs.declared.item.Reason.TheVariants.{NotBuilt, NoRoot, NoType, WrongShape, NilRoot, NoItem, Range}
-use Rattle.store_model.specs.Range.{is_above}
-use Rattle.store_model.specs.Shapes.{holds_ints, holds_refs}
-use Rattle.store_model.specs.Checks.{first_reason, slots_checks, int_checks, ref_checks}
-use Rattle.heap_core.specs.Parts.{HeapParts}
+use Rattle.store_model.specs.Range.{is_above, is_above_ids, is_above_items}
+use Rattle.store_model.specs.Shapes.{holds_ints, holds_refs, is_fixed_shape, is_array_shape}
+use Rattle.store_model.specs.Checks.{first_reason, slots_checks, born_checks, room_checks, type_words, int_checks, ref_checks}
+use Rattle.store_model.specs.Setup.{young_words}
+use Rattle.type_table.specs.declared.info.Shape.{Shape}
+use Rattle.type_table.specs.Words.{words_in}
+use Rattle.heap_core.specs.Parts.{HeapParts, HeapSeen, heap_of}
 use Rattle.heap_core.specs.Told.{word_in, place_in, kind_from, kind_at}
 use Rattle.heap_core.specs.StandsFor.{PartsStandFor}
-use Rattle.heap_core.specs.Effects.{HasObjectIn, layout_in}
-use Rattle.heap_core.specs.Commands.{AreStanding, AreReady}
+use Rattle.heap_core.specs.Effects.{HasObjectIn, layout_in, FitsOf, IsFitting}
+use Rattle.heap_core.specs.Commands.{AreStanding, AreReady, CanDo, CanBear}
 use Rattle.heap_core.proofs.StandLaws.{in_slot}
 
 -- a check that is not the first to hold does not hold
@@ -125,3 +128,55 @@ move_ready heap to from ready =
 pub drop_ready : (heap : HeapParts) (root : ℕ) → AreReady heap (DropRoot root) → root < length heap.slots
 drop_ready heap root ready =
     slot_in heap root ready.standing (one_slot heap.setup.settings.roots root (is_above (DropRoot root)) _ ready.accepted).0
+
+or_false : (a b : Bool) → (a || b) ≡ false → (a ≡ false) × (b ≡ false)
+or_false true b e = absurd (let no : ⊥ = cc in no)
+or_false false b e = (refl, e)
+
+-- an array in range is not too long
+len_in_range : (root type_id len : ℕ) → is_above (NewArray root type_id len) ≡ false → len ≤ 16777216
+unfolding is_above
+len_in_range root type_id len e =
+    ltb-false 16777216 len (or_false (is_above_ids type_id) (is_above_items len) (or_false (is_above_ids root) _ e).1).1
+
+-- a birth that is not refused fits
+birth_passed : (found : Option TypeInfo) (heap : HeapParts) (test : Shape → Bool) (root items : ℕ) → root < heap.setup.settings.roots → items ≤ 16777216
+    → first_reason (born_checks found test ++ room_checks heap.setup.settings (type_words found items) heap.unsettled heap.unsettled) ≡ None → FitsOf found heap root items
+birth_passed None heap test root items l few e = absurd (let no : ⊥ = cc in no)
+birth_passed (Some info) heap test root items l few e =
+    let settings = heap.setup.settings in let words = words_in info.shape items in
+    let shaped = passed (not (test info.shape)) WrongShape _ e in
+    let small = passed (nat_lt (young_words settings) words) NotBuilt _ shaped.1 in
+    let fits = passed (nat_lt settings.nursery (heap.unsettled + words)) NotBuilt _ small.1 in
+    let few_words = passed (nat_lt settings.limit (heap.unsettled + words)) NotBuilt _ fits.1 in record {
+      root_in = l;
+      items_few = few;
+      young = ltb-false (young_words settings) words small.0;
+      nursery = ltb-false settings.nursery (heap.unsettled + words) fits.0;
+      limit = ltb-false settings.limit (heap.unsettled + words) few_words.0;
+    }
+
+pub fixed_ready : (heap : HeapParts) (root type_id : ℕ) → AreReady heap (NewFixed root type_id) → FitsOf (value_at heap.setup.types type_id) heap root 0
+fixed_ready heap root type_id ready =
+    let one = one_slot heap.setup.settings.roots root (is_above (NewFixed root type_id)) _ ready.accepted in
+    birth_passed (value_at heap.setup.types type_id) heap is_fixed_shape root 0 one.0 (omega arith) one.1
+
+pub array_ready : (heap : HeapParts) (root type_id len : ℕ) → AreReady heap (NewArray root type_id len) → FitsOf (value_at heap.setup.types type_id) heap root len
+array_ready heap root type_id len ready =
+    let above = passed (is_above (NewArray root type_id len)) Range _ ready.accepted in
+    let one = one_slot heap.setup.settings.roots root (is_above (NewArray root type_id len)) _ ready.accepted in
+    birth_passed (value_at heap.setup.types type_id) heap is_array_shape root len one.0 (len_in_range root type_id len above.0) one.1
+
+-- parts that can bear an object have room for it
+pub bear_ready : (now : HeapSeen) (heap : HeapParts) (root type_id items : ℕ) → now ≡ heap_of heap → CanBear now root type_id items
+    → AreStanding heap × FitsOf (value_at heap.setup.types type_id) heap root items
+bear_ready now heap root type_id items is (inl can) =
+    let ready : AreReady heap (NewArray root type_id items) = subst (λ (h : HeapSeen). CanDo h (NewArray root type_id items)) is can in
+    (ready.standing, array_ready heap root type_id items ready)
+bear_ready now heap root type_id items is (inr can) =
+    let ready : AreReady heap (NewFixed root type_id) = subst (λ (h : HeapSeen). CanDo h (NewFixed root type_id)) is can.1 in
+    (ready.standing, subst (λ (n : ℕ). FitsOf (value_at heap.setup.types type_id) heap root n) (sym can.0) (fixed_ready heap root type_id ready))
+
+-- of a type that is there
+pub fits_some : (found : Option TypeInfo) (info : TypeInfo) (heap : HeapParts) (root items : ℕ) → found ≡ Some info → FitsOf found heap root items → IsFitting heap root info items
+fits_some found info heap root items is fits = subst (λ (f : Option TypeInfo). FitsOf f heap root items) is fits

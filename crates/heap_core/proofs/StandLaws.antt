@@ -47,7 +47,7 @@ is_in-set x y (suc i) (z ∷ xs) t = elim (is_in-cases x z (slice_set xs i y) t)
 ]
 
 -- a slot gets a place that references may have
-slots-set : {slots places : List ℕ} {name : ℕ → ℕ} {roots : ℕ} {stored : List (Option ℕ)} (root place : ℕ)
+pub slots-set : {slots places : List ℕ} {name : ℕ → ℕ} {roots : ℕ} {stored : List (Option ℕ)} (root place : ℕ)
     → HoldsSlots slots places name roots stored → IsPointer places place
     → HoldsSlots (slice_set slots root place) places name roots (slice_set stored root (renamed name place))
 slots-set {slots = slots} {places = places} {name = name} root place holds pointer = record {
@@ -87,6 +87,8 @@ slot_stands heap store root place s pointer =
       next_high = s.next_high;
       births = s.births;
       unsettled = s.unsettled;
+      limit = s.limit;
+      ranges = s.ranges;
       arena = s.arena;
       others = others;
       sound = sound-by heap.setup.settings after heap.next (slice_set heap.slots root place) s.objects in_slots s.next s.births others;
@@ -96,7 +98,7 @@ slot_stands heap store root place s pointer =
 abbrev pub SameLayouts : Table TypeInfo → (ℕ → ℕ) → (ℕ → ℕ) → List ℕ → Type 0
 SameLayouts types v w places = (p : ℕ) → IsTrue (is_in p places) → KeepsLayout types v w p
 
-walk-same : (types : Table TypeInfo) (v w : ℕ → ℕ) (from end : ℕ) (places : List ℕ) → SameLayouts types v w places
+pub walk-same : (types : Table TypeInfo) (v w : ℕ → ℕ) (from end : ℕ) (places : List ℕ) → SameLayouts types v w places
     → IsWalk types w from places end → IsWalk types v from places end
 walk-same types v w from end [] same walk = walk
 walk-same types v w from end (p ∷ places) same walk =
@@ -105,7 +107,7 @@ walk-same types v w from end (p ∷ places) same walk =
         (walk-same types v w (from + words_at types w p) end places (λ q t. same q (is_in-tail q p places t)) walk.1))
 
 -- objects stand whole where blocks and layouts are the same
-whole-same : (old new : Memory) (types : Table TypeInfo) (places : List ℕ) → SameLayouts types (word_at new.blocks) (word_at old.blocks) places
+pub whole-same : (old new : Memory) (types : Table TypeInfo) (places : List ℕ) → SameLayouts types (word_at new.blocks) (word_at old.blocks) places
     → ((a n : ℕ) → lies_in_one new.blocks a n ≡ lies_in_one old.blocks a n) → AreWhole old types places → AreWhole new types places
 whole-same old new types places same lies whole = λ p t.
     let keeps = same p t in let object = whole p t in record {
@@ -139,9 +141,7 @@ word_stands heap store s at value birth change there same keeps holds =
       objects = objects;
       whole = whole-same heap.memory new.memory types s.places layouts lies s.whole;
       nursery = record {
-        young = s.nursery.young;
-        walk = walk-same types (word_in new) (word_in heap) 1 heap.free s.nursery.young (λ p t. layouts p (subst IsTrue (s.nursery.young_are p) t)) s.nursery.walk;
-        young_are = s.nursery.young_are;
+        walk = walk-same types (word_in new) (word_in heap) 1 heap.free s.places layouts s.nursery.walk;
         room = s.nursery.room;
         whole = rw lies s.nursery.whole;
       };
@@ -151,6 +151,8 @@ word_stands heap store s at value birth change there same keeps holds =
       births = s.births;
       unsettled = s.unsettled ∙ (ap (unsettled_words store.kept) settled ∙ (unsettled-none store.kept
           ∙ (sym (kept_words-changed birth change store.kept keeps) ∙ (sym (unsettled-none after.kept) ∙ ap (unsettled_words after.kept) (sym settled)))));
+      limit = s.limit;
+      ranges = s.ranges;
       arena = s.arena;
       others = others;
       sound = sound-by heap.setup.settings after heap.next heap.slots objects s.slots s.next s.births others;

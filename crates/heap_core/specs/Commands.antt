@@ -1,8 +1,9 @@
 -- What the calls of a heap ask, and what they do to each store that the heap stands for.
-use Rattle.std.specs.Prelude.{◌≡◌, ℕ, Bool, true, false, IsTrue, List, ◌++◌, Option, Some, None, option_map, Result, Ok, Err}
+use Rattle.std.specs.Prelude.{◌≡◌, ℕ, Bool, true, false, IsTrue, List, ◌++◌, Option, Some, None, option_map, Result, Ok, Err, ◌⊎◌}
 use Rattle.type_table.specs.declared.info.TypeInfo.{TypeInfo}
 use Rattle.type_table.specs.Table.{Table, value_at}
 use Rattle.store_model.specs.declared.command.Command.{Command}
+use Rattle.store_model.specs.declared.command.Command.TheVariants.{NewFixed, NewArray}
 use Rattle.store_model.specs.declared.line.Line.{Line}
 use Rattle.store_model.specs.declared.structure.StructState.TheVariants.{Absent}
 use Rattle.store_model.specs.Setup.{Setup}
@@ -12,7 +13,7 @@ use Rattle.store_model.specs.Look.{Look}
 use Rattle.store_model.specs.Refusal.{command_checks}
 use Rattle.store_model.specs.Birth.{Request, Birth}
 use Rattle.heap_core.specs.declared.fault.HeapFault.{HeapFault}
-use Rattle.heap_core.specs.declared.fault.HeapFault.TheVariants.{Spent}
+use Rattle.heap_core.specs.declared.fault.HeapFault.TheVariants.{Spent, OutOfMemory}
 use Rattle.heap_core.specs.Parts.{HeapParts, HeapSeen}
 use Rattle.heap_core.specs.Told.{told}
 use Rattle.heap_core.specs.StandsFor.{PartsStandFor, StandsFor}
@@ -43,6 +44,15 @@ CanDoIf false parts command = OfParts parts (λ found. AreReady found command)
 -- the heap is spent, or was started and stands for a store in which the command is not refused
 abbrev pub CanDo : HeapSeen → Command → Type 0
 CanDo heap command = CanDoIf heap.is_spent heap.parts command
+
+-- the same of a birth: of a fixed object, which has no items of its own choice, or of an array of so many
+abbrev pub CanBear : HeapSeen → ℕ → ℕ → ℕ → Type 0
+CanBear heap root type_id items = CanDo heap (NewArray root type_id items) ⊎ ((items ≡ 0) × CanDo heap (NewFixed root type_id))
+
+-- how a call fails that can only want memory, but on a spent heap
+abbrev pub fault_of : Bool → HeapFault
+fault_of true = Spent
+fault_of false = OutOfMemory
 
 -- the settings and types of a heap that was started
 abbrev pub setup_in : HeapSeen → Option Setup

@@ -1,5 +1,5 @@
 -- What the calls of a heap find in its parts, and what they make of them.
-use Rattle.std.specs.Prelude.{◌≡◌, ℕ, ◌+◌, ◌^◌, ◌<◌, ◌≤◌, ◌==◌, if◌then◌else◌, length, slice_set, IsTrue, Option, Some, None}
+use Rattle.std.specs.Prelude.{◌≡◌, ℕ, ◌+◌, ◌^◌, ◌<◌, ◌≤◌, ◌==◌, if◌then◌else◌, length, slice_set, IsTrue, false, Option, Some, None, List, [], ◌∷◌, ◌++◌}
 use Rattle.type_table.specs.declared.info.TypeInfo.{TypeInfo}
 use Rattle.type_table.specs.Words.{words_in}
 use Rattle.heap_space.specs.Places.{with_word, with_run, lies_in_one}
@@ -7,6 +7,9 @@ use Rattle.object_view.specs.Views.{HasObject}
 use Rattle.object_view.specs.Births.{born_words}
 use Rattle.store_model.specs.ObjectWords.{layout_at}
 use Rattle.store_model.specs.Layout.{Layout}
+use Rattle.store_model.specs.Setup.{young_words}
+use Rattle.store_model.specs.declared.line.Line.{Line}
+use Rattle.store_model.specs.declared.line.Line.TheVariants.{Born}
 use Rattle.heap_core.specs.Parts.{HeapParts}
 use Rattle.heap_core.specs.Told.{word_in, place_in}
 
@@ -57,3 +60,21 @@ pub record HasRoom (heap : HeapParts) (root : ℕ) (info : TypeInfo) (items : �
   pub free_small : heap.free + words_in info.shape items < 2 ^ 63
   pub next_small : heap.next < 2 ^ 63
   pub unsettled_small : heap.unsettled + words_in info.shape items < 2 ^ 63
+
+-- a type is there, and an object of it is born, whose line is appended; births stay below 2 ^ 63
+abbrev pub BearsOf : Option TypeInfo → HeapParts → HeapParts → ℕ → ℕ → ℕ → List Line → List Line → Type 0
+BearsOf None old new root type_id items before after = ⊥
+BearsOf (Some info) old new root type_id items before after =
+    (new ≡ born old root type_id info items) × (after ≡ before ++ Born old.next false ∷ []) × (old.next + 1 < 2 ^ 63)
+
+-- an object of the type may be born: nothing is in the way
+pub record IsFitting (heap : HeapParts) (root : ℕ) (info : TypeInfo) (items : ℕ) : Type 0 where
+  pub root_in : root < heap.setup.settings.roots
+  pub items_few : items ≤ 16777216
+  pub young : words_in info.shape items ≤ young_words heap.setup.settings
+  pub nursery : heap.unsettled + words_in info.shape items ≤ heap.setup.settings.nursery
+  pub limit : heap.unsettled + words_in info.shape items ≤ heap.setup.settings.limit
+
+abbrev pub FitsOf : Option TypeInfo → HeapParts → ℕ → ℕ → Type 0
+FitsOf None heap root items = ⊥
+FitsOf (Some info) heap root items = IsFitting heap root info items

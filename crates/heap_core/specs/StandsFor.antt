@@ -6,6 +6,7 @@ use Rattle.heap_space.specs.Places.{lies_in_one}
 use Rattle.heap_space.specs.Memory.{Memory}
 use Rattle.object_view.specs.Views.{HasObject}
 use Rattle.store_model.specs.declared.settings.Settings.{Settings}
+use Rattle.store_model.specs.Checks.{AreInRange}
 use Rattle.store_model.specs.Sets.{is_in}
 use Rattle.store_model.specs.Object.{Object}
 use Rattle.store_model.specs.Store.{Store, empty_store, unsettled_words}
@@ -22,9 +23,7 @@ IsWalk types word from (place ∷ places) end = (place ≡ from) × IsWalk types
 
 -- The nursery holds just the objects at these places, one behind another from word 1 on, and behind them what was never handed out.
 pub record HoldsNursery (nursery : ℕ) (memory : Memory) (types : Table TypeInfo) (word : ℕ → ℕ) (free : ℕ) (places : List ℕ) : Type 0 where
-  pub young : List ℕ
-  pub walk : IsWalk types word 1 young free
-  pub young_are : (p : ℕ) → is_in p young ≡ is_in p places
+  pub walk : IsWalk types word 1 places free
   pub room : free ≤ nursery + 1
   pub whole : IsTrue (lies_in_one memory.blocks 1 nursery)
 
@@ -59,6 +58,8 @@ pub record PartsStandFor (heap : HeapParts) (store : Store) : Type 0 where
   pub next_high : heap.next < 2 ^ 63
   pub births : RiseBetween 1 (map name places) heap.next
   pub unsettled : heap.unsettled ≡ unsettled_words store.kept store.settled
+  pub limit : heap.unsettled ≤ heap.setup.settings.limit
+  pub ranges : AreInRange heap.setup.settings
   pub arena : heap.memory.arena_words ≡ heap.setup.settings.arena * heap.setup.settings.page
   pub others : store ≡ plain_store heap.setup.settings store.next store.kept store.slots
   pub sound : IsSound heap.setup.settings store

@@ -11,13 +11,6 @@ pub enum HeapFault {
     /// Memory was wanting in the middle of an earlier collection, and the heap can't be used any more.
     #[error("the heap is spent")]
     Spent,
-    /// Counted words and the words of the request exceed the limit, also after a whole collection.
-    #[error("heap limit: {counted} + {request} > {limit}")]
-    HeapLimit {
-        counted: u64,
-        request: u64,
-        limit: u64,
-    },
     #[error("out of memory")]
     OutOfMemory,
 }

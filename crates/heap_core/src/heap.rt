@@ -1,22 +1,21 @@
 //! A heap: closed, started with its parts, or spent.
-ghost use Rattle.std.specs.Prelude.{◌≡◌, ◌<◌, [], ◌∷◌, ◌++◌, true, false, IsTrue, Option, None, Some, is_some, Ok, Err, OnOk, OnErr, IfErr, ◌⊎◌};
-ghost use Rattle.store_model.specs.declared.command.Command.TheVariants.{NewFixed, NewArray, Put, Get, Link, Load, MoveRoot, DropRoot, Same};
+ghost use Rattle.std.specs.Prelude.{◌≡◌, ◌≤◌, IsTrue, IsSome, IsSomeAnd, is_some, None, Ok, Err, OnOk, OnErr, IfErr};
+ghost use Rattle.store_model.specs.declared.command.Command.TheVariants.{Put, Get, Link, Load, MoveRoot, DropRoot, Same};
 ghost use Rattle.store_model.specs.Slots.{held, put_in_slot, is_same};
 ghost use Rattle.store_model.specs.Store.{Store, empty_store};
-ghost use Rattle.store_model.specs.Steps.{int_at, ref_at, put_int, put_ref};
+ghost use Rattle.store_model.specs.Steps.{int_at, ref_at, put_int, put_ref, array_request};
 ghost use Rattle.store_model.specs.Checks.{AreInRange};
-ghost use Rattle.store_model.specs.Birth.{Request};
 ghost use Rattle.heap_core.specs.declared.fault.HeapFault.TheVariants.{Spent, OutOfMemory};
 ghost use Rattle.heap_core.specs.Parts.{closed_heap, heap_of, started_parts};
 ghost use Rattle.heap_core.specs.StandsFor.{StandsFor};
-ghost use Rattle.heap_core.specs.Commands.{CanDo, done_unless, Changes};
+ghost use Rattle.heap_core.specs.Commands.{OfParts, IsStanding, type_found, told_by, CanDo, CanBear, done_unless, fault_of, Changes, Bears};
 
 use crate::fault::HeapFault;
 use crate::parts::Parts;
 use std::alloc::Global;
 use std::marker::Model;
-use store_model::Settings;
-use type_table::TypeTable;
+use store_model::{Kind, Line, Settings, TypeInfo};
+use type_table::{Shape, TypeTable};
 
 /// What has become of a heap.
 #[derive(Drop)]
@@ -79,6 +78,89 @@ impl Heap {
         match self.state {
             State::Spent => true,
             State::Closed | State::Started(_) => false,
+        }
+    }
+
+    /// The type of an id, None where the heap was not started or the id has none.
+    pub fn type_info(&self, id: u16) -> Option<TypeInfo>
+        ensures { result ≡ type_found self.now.parts id }
+    {
+        match &self.state {
+            State::Started(parts) => parts.type_info(id),
+            State::Closed | State::Spent => None,
+        }
+    }
+
+    /// The words of all objects.
+    pub fn kept_words(&self) -> u64
+        requires { IsStanding self.now }
+        ensures value { result ≡ (told_by self.now).kept }
+        ensures limit { OfParts self.now.parts (λ parts. result ≤ parts.setup.settings.limit) }
+    {
+        match &self.state {
+            State::Started(parts) => parts.unsettled(),
+            State::Closed | State::Spent => 0,
+        }
+    }
+
+    /// The words of the objects in the nursery.
+    pub fn unsettled_words(&self) -> u64
+        requires { IsStanding self.now }
+        ensures value { result ≡ (told_by self.now).unsettled }
+        ensures nursery { OfParts self.now.parts (λ parts. result ≤ parts.setup.settings.nursery) }
+    {
+        match &self.state {
+            State::Started(parts) => parts.unsettled(),
+            State::Closed | State::Spent => 0,
+        }
+    }
+
+    /// The shape of the object in a slot and its numbers of items, None where the slot is empty or not there.
+    pub fn kind_in(&self, root: u32) -> Option<Kind>
+        requires { IsStanding self.now }
+        ensures { result ≡ (told_by self.now).kind root }
+    {
+        match &self.state {
+            State::Started(parts) => parts.kind(root),
+            State::Closed | State::Spent => None,
+        }
+    }
+
+    /// Whether a slot holds an object.
+    pub fn root_is(&self, root: u32) -> bool
+        requires { IsStanding self.now }
+        ensures { result ≡ is_some ((told_by self.now).kind root) }
+    {
+        self.kind_in(root).is_some()
+    }
+
+    /// The shape of the object in a slot.
+    pub fn kind_at(&self, root: u32) -> Shape
+        requires standing { IsStanding self.now }
+        requires full { IsSome ((told_by self.now).kind root) }
+        ensures { IsSomeAnd ((told_by self.now).kind root) (λ kind. result ≡ kind.shape) }
+    {
+        self.kind_in(root).unwrap().shape
+    }
+
+    /// An object of a type is born for a slot, its numbers 0 and its references nil, and its line is appended. `len` is the
+    /// number of an array's items, and 0 for a fixed type. An error changes nothing.
+    pub fn new_object(
+        &mut self,
+        root: u32,
+        type_id: u16,
+        len: u64,
+        out: &mut Vec<Line>,
+    ) -> Result<(), HeapFault>
+        requires { CanBear self.old root type_id len }
+        ensures born { OnOk result (Bears self.old self.new (array_request root type_id len) out.old.items out.new.items) }
+        ensures err { OnErr result ((self.new ≡ self.old) × (out.new.items ≡ out.old.items)) }
+        ensures cause { IfErr result (λ fault. fault ≡ fault_of self.old.is_spent) }
+        ensures spent { IsTrue self.old.is_spent → result ≡ Err Spent }
+    {
+        match &mut self.state {
+            State::Started(parts) => Ok(parts.new_object(root, type_id, len, out)?),
+            State::Closed | State::Spent => Err(HeapFault::Spent),
         }
     }
 

@@ -1,18 +1,22 @@
 //! The parts of a heap that was started: objects in words, and root slots that lead to them.
-ghost use Rattle.std.specs.Prelude.{◌≡◌, ◌≢◌, ℕ, ◌+◌, ◌<◌, length, IfOk};
+ghost use Rattle.std.specs.Prelude.{◌≡◌, ◌≢◌, ℕ, ◌+◌, ◌<◌, length, IfOk, OnOk, OnErr};
 ghost use Rattle.type_table.specs.Table.{value_at};
 ghost use Rattle.object_view.specs.Views.{HasObject, view_at};
 ghost use Rattle.store_model.specs.Checks.{AreInRange};
 ghost use Rattle.heap_core.specs.Parts.{started_parts};
 ghost use Rattle.heap_core.specs.Told.{word_in, place_in, kind_at};
-ghost use Rattle.heap_core.specs.Effects.{birth_read, HasObjectIn, HasRoom, layout_in, int_place, ref_place, with_word_at, with_slot, born};
+ghost use Rattle.heap_core.specs.Effects.{birth_read, HasObjectIn, HasRoom, layout_in, int_place, ref_place, with_word_at, with_slot, born, BearsOf, FitsOf};
+ghost use Rattle.heap_core.specs.Commands.{AreStanding};
 
 use heap_space::Space;
 use object_view::{ObjView, init, int_at, ref_at, set_int, set_ref, view};
 use std::alloc::{AllocError, Global};
 use std::marker::Model;
-use store_model::{Kind, Settings, TypeInfo};
-use type_table::{Shape, TypeTable, words};
+use store_model::{Kind, Line, Settings, TypeInfo};
+use type_table::{TypeTable, words};
+
+// The greatest birth.
+const LAST_BIRTH: u64 = (1 << 63) - 2;
 
 /// What a started heap has. A contract sees it as plain data.
 #[derive(Drop)]
@@ -186,5 +190,33 @@ impl Parts {
         self.free += n;
         self.next += 1;
         self.unsettled += n;
+    }
+
+    /// A new object of a type, with so many items if it is an array, for a slot, and its line. The error is want of
+    /// memory for the line, also where the next birth would reach 2^63, and it changes nothing.
+    pub fn new_object(
+        &mut self,
+        root: u32,
+        type_id: u16,
+        len: u64,
+        out: &mut Vec<Line>,
+    ) -> Result<(), AllocError>
+        requires standing { AreStanding self.old }
+        requires fits { FitsOf (value_at self.old.setup.types type_id) self.old root len }
+        ensures ok { OnOk result (BearsOf (value_at self.old.setup.types type_id) self.old self.new root type_id len out.old.items out.new.items) }
+        ensures err { OnErr result ((self.new ≡ self.old) × (out.new.items ≡ out.old.items)) }
+    {
+        if self.next >= LAST_BIRTH {
+            return Err(AllocError);
+        }
+        let Some(info) = self.types.get(type_id) else {
+            return Err(AllocError);
+        };
+        out.push(Line::Born {
+            birth: self.next,
+            old: false,
+        })?;
+        self.bear(root, type_id, info, len);
+        Ok(())
     }
 }

@@ -24,7 +24,7 @@ returns-clause-changes c = elim c.match-self.branch [
       (ap (λ (i : Inside). seen i.state) w.self-inside-is) c.requires
 ]
 
-pub birth_of-birth-requires : goal.birth_of-requires
+pub birth_of-birth-requires : goal.birth_of-birth-requires
 birth_of-birth-requires c =
     let parts = c.in-Started.parts in
     let now = in_state c.args.self.now c.self.inside.state (Started parts) c.self.view_is c.in-Started.is in
