@@ -175,6 +175,7 @@ bears now new heap later (Some info) root type_id items before after known small
     let made : HeapParts = born heap root type_id info items in
     let law : Bears (heap_of heap) (heap_of made) request before after = record {
       setup = refl;
+      same_spent = refl;
       lines = Born heap.next false ∷ [];
       appended = born_as.1;
       births = λ store s.
@@ -202,9 +203,9 @@ room_of heap root info items standing fits =
       slot = omega (arith, fits.root_in, s.slots.many);
       items_few = fits.items_few;
       words = free-lies heap standing.store (words_in info.shape items) s room;
-      free_small = omega (arith, room, s.ranges.nursery.1);
+      free_small = omega (arith, room, s.ranges.1);
       next_small = s.next_high;
-      unsettled_small = omega (arith, fits.nursery, s.ranges.nursery.1);
+      unsettled_small = omega (arith, fits.nursery, s.ranges.1);
     }
 
 -- the objects of the nursery have no more words than it

@@ -1,5 +1,5 @@
 -- A call of a heap by what its state is: closed, started or spent.
-use Rattle.std.proofs.Common.{◌≡◌, ◌⊎◌, Option, Some, None, refl, sym, ap, ◌∙◌, subst, inl, inr}
+use Rattle.std.proofs.Common.{◌≡◌, ◌⊎◌, Bool, true, false, Option, Some, None, refl, sym, ap, ◌∙◌, subst, inl, inr}
 use Rattle.store_model.specs.declared.command.Command.{Command}
 use Rattle.std.specs.Prelude.{IsSome}
 use Rattle.store_model.specs.Store.{Store}
@@ -39,7 +39,7 @@ changes_idle now new inside command change (inl is) view stays can =
     absurd (subst (λ (h : HeapSeen). CanDo h command) (in_state now inside Closed view is) can)
 changes_idle now new inside command change (inr is) view stays can =
     subst (λ (h : HeapSeen). Changes h new change) (sym (in_state now inside Spent view is))
-    (subst (λ (h : HeapSeen). Changes spent_heap h change) (sym (stays ∙ ap seen is)) (record { setup = refl; stands = λ store s. absurd s }))
+    (subst (λ (h : HeapSeen). Changes spent_heap h change) (sym (stays ∙ ap seen is)) (record { setup = refl; same_spent = refl; stands = λ store s. absurd s }))
 
 -- where it can do a command, a heap that is closed or spent stands for no store
 pub nothing_idle : (now : HeapSeen) (inside : State) (command : Command) (store : Store) {A : Type 0}
@@ -53,8 +53,11 @@ nothing_idle now inside command store (inr is) view can stands =
 pub standing_of : (now : HeapSeen) (parts : HeapParts) → now ≡ heap_of parts → IsStanding now → AreStanding parts
 standing_of now parts is standing = subst IsStanding is standing
 
+look_told_if : (spent : Bool) (store : Store) (parts : Option HeapParts) → IsSome parts → StandsForIf spent parts store → look store ≡ told_if parts
+look_told_if true store parts some stands = absurd stands
+look_told_if false store None some stands = absurd (let no : ⊥ = cc in no)
+look_told_if false store (Some parts) some stands = look-told parts store stands
+
 -- a look at a store that a heap stands for sees what the heap tells
-pub look_told : (heap : HeapSeen) (store : Store) (parts : Option HeapParts) → heap.parts ≡ parts → IsSome parts → StandsFor heap store → look store ≡ told_by heap
-look_told heap store None is some stands = absurd (let no : ⊥ = cc in no)
-look_told heap store (Some parts) is some stands =
-    look-told parts store (subst (λ (found : Option HeapParts). StandsForIf found heap.is_spent store) is stands) ∙ ap told_if (sym is)
+pub look_told : (heap : HeapSeen) (store : Store) → IsSome heap.parts → StandsFor heap store → look store ≡ told_by heap
+look_told heap store some stands = look_told_if heap.is_spent store heap.parts some stands

@@ -94,32 +94,32 @@ pub put_changes : (heap : HeapParts) (root item value : ℕ) → AreReady heap (
     → Changes (heap_of heap) (heap_of (with_word_at heap (int_place heap root item) value)) (λ store. put_int store root item value)
 put_changes heap root item value ready =
     let has = put_ready heap root item value ready in
-    record { setup = refl; stands = λ store s. put_stands heap store root item value s has.full has.item_in }
+    record { setup = refl; same_spent = refl; stands = λ store s. put_stands heap store root item value s has.full has.item_in }
 
 pub link_changes : (heap : HeapParts) (root item from : ℕ) → AreReady heap (Link root item from)
     → Changes (heap_of heap) (heap_of (with_word_at heap (ref_place heap root item) (place_in heap from))) (λ store. put_ref store root item (held store.slots from))
 link_changes heap root item from ready =
     let has = link_ready heap root item from ready in
     let new : HeapParts = with_word_at heap (ref_place heap root item) (place_in heap from) in
-    record { setup = refl; stands = λ store s.
+    record { setup = refl; same_spent = refl; stands = λ store s.
         subst (λ (b : Option ℕ). PartsStandFor new (put_ref store root item b)) (sym (slot-holds heap store from s))
         (link_stands heap store root item (place_in heap from) s has.full has.item_in (slot-pointer heap.slots s.places from s.slots.pointers)) }
 
 pub move_changes : (heap : HeapParts) (to from : ℕ)
     → Changes (heap_of heap) (heap_of (with_slot heap to (place_in heap from))) (λ store. put_in_slot store to (held store.slots from))
-move_changes heap to from = record { setup = refl; stands = λ store s.
+move_changes heap to from = record { setup = refl; same_spent = refl; stands = λ store s.
     subst (λ (b : Option ℕ). PartsStandFor (with_slot heap to (place_in heap from)) (put_in_slot store to b)) (sym (slot-holds heap store from s))
     (slot_stands heap store to (place_in heap from) s (slot-pointer heap.slots s.places from s.slots.pointers)) }
 
 pub drop_changes : (heap : HeapParts) (root : ℕ) → Changes (heap_of heap) (heap_of (with_slot heap root 0)) (λ store. put_in_slot store root None)
-drop_changes heap root = record { setup = refl; stands = λ store s. slot_stands heap store root 0 s (inl refl) }
+drop_changes heap root = record { setup = refl; same_spent = refl; stands = λ store s. slot_stands heap store root 0 s (inl refl) }
 
 pub load_changes : (heap : HeapParts) (to root item : ℕ) → AreReady heap (Load to root item)
     → Changes (heap_of heap) (heap_of (with_slot heap to (word_in heap (ref_place heap root item)))) (λ store. put_in_slot store to (ref_at store root item))
 load_changes heap to root item ready =
     let has = (load_ready heap to root item ready).1 in
     let place = word_in heap (ref_place heap root item) in
-    record { setup = refl; stands = λ store s.
+    record { setup = refl; same_spent = refl; stands = λ store s.
         subst (λ (b : Option ℕ). PartsStandFor (with_slot heap to place) (put_in_slot store to b)) (sym (ref_is heap store root item has s))
         (slot_stands heap store to place s (ref-pointer heap store root item has s)) }
 
@@ -204,7 +204,7 @@ started_stands settings types ranges =
       name = name;
       objects = objects;
       whole = λ p t. nothing p t;
-      nursery = record { walk = refl; room = omega (arith, ranges.nursery.0); whole = nursery-whole settings.nursery };
+      nursery = record { walk = refl; room = omega (arith, ranges.0); whole = nursery-whole settings.nursery };
       slots = slots;
       next = refl;
       next_high = lit< tt;

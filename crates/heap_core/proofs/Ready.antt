@@ -134,7 +134,7 @@ or_false true b e = absurd (let no : ⊥ = cc in no)
 or_false false b e = (refl, e)
 
 -- an array in range is not too long
-len_in_range : (root type_id len : ℕ) → is_above (NewArray root type_id len) ≡ false → len ≤ 16777216
+pub len_in_range : (root type_id len : ℕ) → is_above (NewArray root type_id len) ≡ false → len ≤ 16777216
 unfolding is_above
 len_in_range root type_id len e =
     ltb-false 16777216 len (or_false (is_above_ids type_id) (is_above_items len) (or_false (is_above_ids root) _ e).1).1

@@ -90,11 +90,13 @@ done_unless false = Ok tt
 -- settings and types stay, and each store that the heap stood for becomes this one
 pub record Changes (old new : HeapSeen) (change : Store → Store) : Type 0 where
   pub setup : setup_in new ≡ setup_in old
+  pub same_spent : new.is_spent ≡ old.is_spent
   pub stands : (store : Store) → StandsFor old store → StandsFor new (change store)
 
 -- an object is born for the request, its lines are appended, and the heap stands for the store with it
 pub record Bears (old new : HeapSeen) (request : Request) (before after : List Line) : Type 0 where
   pub setup : setup_in new ≡ setup_in old
+  pub same_spent : new.is_spent ≡ old.is_spent
   pub lines : List Line
   pub appended : after ≡ before ++ lines
   pub births : (store : Store) → StandsFor old store → (later : Store)

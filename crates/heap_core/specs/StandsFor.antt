@@ -64,12 +64,12 @@ pub record PartsStandFor (heap : HeapParts) (store : Store) : Type 0 where
   pub others : store ≡ plain_store heap.setup.settings store.next store.kept store.slots
   pub sound : IsSound heap.setup.settings store
 
--- the same where the heap may have no parts: a closed heap stands for the empty store of any settings, a spent one for none
-abbrev pub StandsForIf : Option HeapParts → Bool → Store → Type 0
-StandsForIf (Some parts) is_spent store = PartsStandFor parts store
-StandsForIf None true store = ⊥
-StandsForIf None false store = (settings : Settings) × (store ≡ empty_store settings)
+-- a spent heap stands for no store, a closed one for the empty store of any settings
+abbrev pub StandsForIf : Bool → Option HeapParts → Store → Type 0
+StandsForIf true parts store = ⊥
+StandsForIf false None store = (settings : Settings) × (store ≡ empty_store settings)
+StandsForIf false (Some parts) store = PartsStandFor parts store
 
 -- which store a heap stands for
 abbrev pub StandsFor : HeapSeen → Store → Type 0
-StandsFor heap store = StandsForIf heap.parts heap.is_spent store
+StandsFor heap store = StandsForIf heap.is_spent heap.parts store

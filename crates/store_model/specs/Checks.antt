@@ -30,21 +30,21 @@ abbrev pub is_outside : Option (ℕ × ℕ) → ℕ → Bool
 is_outside None value = true
 is_outside (Some range) value = nat_lt value range.0 || nat_lt range.1 value
 
+-- each value lies in its range
+abbrev pub AreWithin : List (ℕ × ℕ) → List ℕ → Type 0
+AreWithin [] values = Unit {0}
+AreWithin (range ∷ ranges) [] = ⊥
+AreWithin (range ∷ ranges) (value ∷ values) = (range.0 ≤ value) × (value ≤ range.1) × AreWithin ranges values
+
+-- the values of the settings, in their order
+abbrev pub values_of : Settings → List ℕ
+values_of settings =
+    settings.nursery ∷ settings.young ∷ settings.limit ∷ settings.increment ∷ settings.minimum ∷ settings.sweep ∷ settings.pins ∷ settings.page
+    ∷ settings.arena ∷ settings.small ∷ settings.card ∷ settings.roots ∷ settings.queues ∷ []
+
 -- each setting lies in its range
-pub record AreInRange (settings : Settings) : Type 0 where
-  pub nursery : (16 ≤ settings.nursery) × (settings.nursery ≤ 1048576)
-  pub young : (8 ≤ settings.young) × (settings.young ≤ 1048576)
-  pub limit : (64 ≤ settings.limit) × (settings.limit ≤ 16777216)
-  pub increment : (1 ≤ settings.increment) × (settings.increment ≤ 1048576)
-  pub minimum : (1 ≤ settings.minimum) × (settings.minimum ≤ 16777216)
-  pub sweep : (1 ≤ settings.sweep) × (settings.sweep ≤ 65536)
-  pub pins : settings.pins ≤ 1024
-  pub page : (64 ≤ settings.page) × (settings.page ≤ 8192)
-  pub arena : (1 ≤ settings.arena) × (settings.arena ≤ 1024)
-  pub small : (2 ≤ settings.small) × (settings.small ≤ 4096)
-  pub card : (1 ≤ settings.card) × (settings.card ≤ 65536)
-  pub roots : (1 ≤ settings.roots) × (settings.roots ≤ 65536)
-  pub queues : (1 ≤ settings.queues) × (settings.queues ≤ 256)
+abbrev pub AreInRange : Settings → Type 0
+AreInRange settings = AreWithin ranges (values_of settings)
 
 -- of a setting: whether a command came, whether its name was set, its number and its value
 abbrev pub setting_checks : Bool → Bool → ℕ → ℕ → Checks

@@ -1,30 +1,27 @@
 //! Why an item is refused, if it is: the checks in their order.
-ghost use Rattle.std.specs.Prelude.{◌≡◌, ◌≤◌, [], ◌∷◌, ◌++◌, Option, None, Some, is_none, nat_le, length, false};
+ghost use Rattle.std.specs.Prelude.{◌≡◌, ◌≤◌, [], ◌∷◌, ◌++◌, Option, is_none, nat_le, length, false};
 ghost use Rattle.type_table.specs.Table.{value_at};
-ghost use Rattle.store_model.specs.Range.{is_above};
 ghost use Rattle.type_table.specs.declared.info.TypeInfo.{TypeInfo};
-ghost use Rattle.type_table.specs.declared.info.Shape.{Shape};
+ghost use Rattle.store_model.specs.Range.{is_above};
 ghost use Rattle.store_model.specs.Setup.{type_at};
-ghost use Rattle.store_model.specs.Store.{kept_words, unsettled_words};
 ghost use Rattle.store_model.specs.Sets.{is_in};
-ghost use Rattle.store_model.specs.Shapes.{kind_in, is_fixed_shape, is_array_shape, has_shape};
+ghost use Rattle.store_model.specs.Shapes.{is_fixed_shape, is_array_shape};
 ghost use Rattle.store_model.specs.Checks.{first_reason, setting_checks, type_checks, slots_checks, born_checks, room_checks, type_words, int_checks, ref_checks};
-ghost use Rattle.store_model.specs.Refusal.{refusal, command_checks, checks_in_range};
-ghost use Rattle.replay_top.specs.declared.session.Session.{Session};
-ghost use Rattle.replay_top.specs.Standing.{HasHeap, progress_of};
+ghost use Rattle.store_model.specs.Refusal.{command_checks, checks_in_range};
+ghost use Rattle.session_core.specs.Standing.{IsPlaced, setup_of, seen_if, types_in, refusal_of};
 
-use crate::heap::Heap;
 use crate::session::Session;
 use crate::settings::is_outside;
+use heap_core::Heap;
 use store_model::{Command, Item, Kind, Reason, Shape, TypeInfo};
 use type_table::{MAX_TYPES, words};
 
 impl Session {
     /// The first reason for which an item is refused, if it is.
-    #[tactic(auto, unfolding(store_model::specs::Refusal::refusal))]
+    #[tactic(auto, unfolding(store_model::specs::Refusal::refusal_seen))]
     pub(crate) fn refusal(&self, heap: &Heap, item: &Item) -> Option<Reason>
-        requires { HasHeap self.now heap.now }
-        ensures { result ≡ refusal (progress_of self.now heap.now) item.now }
+        requires { IsPlaced self.now heap.now }
+        ensures { result ≡ refusal_of self.now heap.now item.now }
     {
         match *item {
             Item::Blank => None,
@@ -35,7 +32,7 @@ impl Session {
     }
 
     fn setting_refusal(&self, name: u8, value: u64) -> Option<Reason>
-        ensures { result ≡ first_reason (setting_checks (is_none self.now.types) (is_in name self.now.names.items) name value) }
+        ensures { result ≡ first_reason (setting_checks (is_none self.now.types) (is_in name self.now.names) name value) }
     {
         if self.types.is_none() {
             return Some(Reason::Late);
@@ -50,8 +47,8 @@ impl Session {
     }
 
     fn type_refusal(&self, heap: &Heap, id: u16, info: TypeInfo) -> Option<Reason>
-        requires { HasHeap self.now heap.now }
-        ensures { let types = (progress_of self.now heap.now).setup.types in
+        requires { IsPlaced self.now heap.now }
+        ensures { let types = types_in self.now.types heap.now in
             result ≡ first_reason (type_checks info.destructor (is_none self.now.types) (value_at types id) (length types)) }
     {
         if info.destructor {
@@ -71,8 +68,8 @@ impl Session {
 
     /// The first reason for which a command is refused, if it is.
     fn command_refusal(&self, heap: &Heap, command: &Command) -> Option<Reason>
-        requires { HasHeap self.now heap.now }
-        ensures { let at = progress_of self.now heap.now in result ≡ first_reason (command_checks at.setup at.store command.now) }
+        requires { IsPlaced self.now heap.now }
+        ensures { result ≡ first_reason (command_checks (setup_of self.now heap.now) (seen_if self.now.types heap.now) command.now) }
     {
         if command.is_above() {
             return Some(Reason::Range);
@@ -82,9 +79,9 @@ impl Session {
 
     /// The same for a command none of whose numbers is out of range.
     fn refusal_in_range(&self, heap: &Heap, command: &Command) -> Option<Reason>
-        requires heap { HasHeap self.now heap.now }
+        requires placed { IsPlaced self.now heap.now }
         requires in_range { is_above command.now ≡ false }
-        ensures { let at = progress_of self.now heap.now in result ≡ first_reason (checks_in_range at.setup at.store command.now) }
+        ensures { result ≡ first_reason (checks_in_range (setup_of self.now heap.now) (seen_if self.now.types heap.now) command.now) }
     {
         match *command {
             Command::NewFixed { root, type_id } => self.fixed_refusal(heap, root, type_id),
@@ -127,9 +124,8 @@ impl Session {
 
     /// Of a whole number of the object in a slot.
     fn int_refusal(&self, heap: &Heap, root: u32, item: u64) -> Option<Reason>
-        requires { HasHeap self.now heap.now }
-        ensures { let store = (progress_of self.now heap.now).store in
-            result ≡ first_reason (slots_checks self.now.settings.roots (root ∷ []) ++ int_checks (kind_in store.slots store.kept root) item) }
+        requires { IsPlaced self.now heap.now }
+        ensures { result ≡ first_reason (slots_checks self.now.settings.roots (root ∷ []) ++ int_checks ((seen_if self.now.types heap.now).kind root) item) }
     {
         if u64::from(root) >= self.settings.roots {
             return Some(Reason::NoRoot);
@@ -146,9 +142,8 @@ impl Session {
         root: u32,
         item: u64,
     ) -> Option<Reason>
-        requires { HasHeap self.now heap.now }
-        ensures { let store = (progress_of self.now heap.now).store in
-            result ≡ first_reason (slots_checks self.now.settings.roots (first ∷ second ∷ []) ++ ref_checks (kind_in store.slots store.kept root) item) }
+        requires { IsPlaced self.now heap.now }
+        ensures { result ≡ first_reason (slots_checks self.now.settings.roots (first ∷ second ∷ []) ++ ref_checks ((seen_if self.now.types heap.now).kind root) item) }
     {
         if u64::from(first) >= self.settings.roots {
             return Some(Reason::NoRoot);
@@ -161,11 +156,11 @@ impl Session {
 
     /// Of the birth of an object of a fixed type.
     fn fixed_refusal(&self, heap: &Heap, root: u32, type_id: u16) -> Option<Reason>
-        requires { HasHeap self.now heap.now }
-        ensures { let at = progress_of self.now heap.now in
-            let info : Option TypeInfo = type_at at.setup type_id in
+        requires { IsPlaced self.now heap.now }
+        ensures { let seen = seen_if self.now.types heap.now in
+            let info : Option TypeInfo = type_at (setup_of self.now heap.now) type_id in
             result ≡ first_reason (slots_checks self.now.settings.roots (root ∷ []) ++ (born_checks info is_fixed_shape
-            ++ room_checks self.now.settings (type_words info 0) (unsettled_words at.store.kept at.store.settled) (kept_words at.store.kept))) }
+            ++ room_checks self.now.settings (type_words info 0) seen.unsettled seen.kept)) }
     {
         if u64::from(root) >= self.settings.roots {
             return Some(Reason::NoRoot);
@@ -181,12 +176,12 @@ impl Session {
 
     /// Of the birth of an array.
     fn array_refusal(&self, heap: &Heap, root: u32, type_id: u16, len: u64) -> Option<Reason>
-        requires heap { HasHeap self.now heap.now }
+        requires placed { IsPlaced self.now heap.now }
         requires len { len ≤ 16777216 }
-        ensures { let at = progress_of self.now heap.now in
-            let info : Option TypeInfo = type_at at.setup type_id in
+        ensures { let seen = seen_if self.now.types heap.now in
+            let info : Option TypeInfo = type_at (setup_of self.now heap.now) type_id in
             result ≡ first_reason (slots_checks self.now.settings.roots (root ∷ []) ++ (born_checks info is_array_shape
-            ++ room_checks self.now.settings (type_words info len) (unsettled_words at.store.kept at.store.settled) (kept_words at.store.kept))) }
+            ++ room_checks self.now.settings (type_words info len) seen.unsettled seen.kept)) }
     {
         if u64::from(root) >= self.settings.roots {
             return Some(Reason::NoRoot);
@@ -202,40 +197,51 @@ impl Session {
 
     /// Of a birth of so many words.
     fn room_refusal(&self, heap: &Heap, words: u64) -> Option<Reason>
-        requires { HasHeap self.now heap.now }
-        ensures { let store = (progress_of self.now heap.now).store in
-            result ≡ first_reason (room_checks self.now.settings words (unsettled_words store.kept store.settled) (kept_words store.kept)) }
+        requires { IsPlaced self.now heap.now }
+        ensures { let seen = seen_if self.now.types heap.now in
+            result ≡ first_reason (room_checks self.now.settings words seen.unsettled seen.kept) }
     {
         if words > self.settings.young.min(self.settings.nursery) {
             return Some(Reason::NotBuilt);
         }
-        let kept = self.words(heap);
-        if words > self.settings.nursery - kept {
+        let unsettled = self.unsettled_words(heap);
+        if words > self.settings.nursery - unsettled {
             return Some(Reason::NotBuilt);
         }
+        let kept = self.kept_words(heap);
         if words > self.settings.limit - kept {
             return Some(Reason::NotBuilt);
         }
         None
     }
 
-    /// The words of all objects, which lie all in the nursery.
-    fn words(&self, heap: &Heap) -> u64
-        requires { HasHeap self.now heap.now }
-        ensures kept { result ≡ kept_words (progress_of self.now heap.now).store.kept }
-        ensures unsettled { let store = (progress_of self.now heap.now).store in result ≡ unsettled_words store.kept store.settled }
+    /// The words of the objects in the nursery.
+    fn unsettled_words(&self, heap: &Heap) -> u64
+        requires { IsPlaced self.now heap.now }
+        ensures value { result ≡ (seen_if self.now.types heap.now).unsettled }
         ensures nursery { result ≤ self.now.settings.nursery }
+    {
+        match &self.types {
+            None => heap.unsettled_words(),
+            Some(_) => 0,
+        }
+    }
+
+    /// The words of all objects.
+    fn kept_words(&self, heap: &Heap) -> u64
+        requires { IsPlaced self.now heap.now }
+        ensures value { result ≡ (seen_if self.now.types heap.now).kept }
         ensures limit { result ≤ self.now.settings.limit }
     {
         match &self.types {
-            None => heap.words(),
+            None => heap.kept_words(),
             Some(_) => 0,
         }
     }
 
     /// The type of an id, if there is one.
     fn type_info(&self, heap: &Heap, id: u16) -> Option<TypeInfo>
-        ensures { result ≡ type_at (progress_of self.now heap.now).setup id }
+        ensures { result ≡ type_at (setup_of self.now heap.now) id }
     {
         match &self.types {
             None => heap.type_info(id),
@@ -245,7 +251,8 @@ impl Session {
 
     /// The shape of the object in a slot with its numbers of items, if there is one.
     fn kind_in(&self, heap: &Heap, root: u32) -> Option<Kind>
-        ensures { let store = (progress_of self.now heap.now).store in result ≡ kind_in store.slots store.kept root }
+        requires { IsPlaced self.now heap.now }
+        ensures { result ≡ (seen_if self.now.types heap.now).kind root }
     {
         match &self.types {
             None => heap.kind_in(root),

@@ -1,24 +1,23 @@
 //! The items of a script, one after another: which are refused, and what the others do.
-ghost use Rattle.std.specs.Prelude.{◌≡◌, [], ◌++◌, ◌∷◌, ◌≤◌, None, Some, Option, IfOk, OnOk, IsErrOf, is_none, is_some, true};
-ghost use Rattle.type_table.specs.declared.info.TypeInfo.{TypeInfo};
-ghost use Rattle.store_model.specs.Setup.{type_at};
-ghost use Rattle.store_model.specs.Progress.{Progress, at_start, after_setting, after_type};
-ghost use Rattle.store_model.specs.Refusal.{refusal};
-ghost use Rattle.replay_top.specs.declared.session.Session.{Session};
-ghost use Rattle.replay_top.specs.Parts.{closed_heap};
-ghost use Rattle.replay_top.specs.Standing.{HasHeap, StandsAt, Answers, Sets, Adds, Begins};
+ghost use Rattle.std.specs.Prelude.{◌≡◌, [], Some, IfOk, OnOk, slice_get, false};
+ghost use Rattle.store_model.specs.Checks.{is_outside, ranges};
+ghost use Rattle.store_model.specs.Progress.{Progress};
+ghost use Rattle.store_model.specs.Setup.{defaults};
+ghost use Rattle.session_core.specs.Seen.{SessionSeen};
+ghost use Rattle.session_core.specs.Standing.{IsPlaced, StandsAt, Answers, Sets, Adds, Begins};
 
 use crate::commands::do_command;
-use crate::heap::Heap;
 use crate::settings::with_setting;
+use heap_core::{Heap, HeapFault};
 use std::alloc::{AllocError, AllocFailed, Global};
+use std::marker::Model;
 use store_model::{Item, Line, Reason, Settings, TypeInfo};
 use thiserror::Error;
 use type_table::TypeTable;
 
 /// Why an item was not done.
-#[derive(Clone, Copy, Debug, Error)]
-pub(crate) enum RunFault {
+#[derive(Clone, Copy, Debug, PartialEq, Eq, Error)]
+pub enum RunFault {
     #[error("malformed: {0:?}")]
     Malformed(Reason),
     #[error("out of memory")]
@@ -26,7 +25,7 @@ pub(crate) enum RunFault {
 }
 
 impl From<AllocError> for RunFault {
-    ghost use Rattle.replay_top.specs.declared.session.RunFault.TheVariants.{OutOfMemory};
+    ghost use Rattle.session_core.specs.declared.session.RunFault.TheVariants.{OutOfMemory};
 
     ghost from_gives = { λ _ e. e ≡ OutOfMemory };
 
@@ -35,8 +34,19 @@ impl From<AllocError> for RunFault {
     }
 }
 
+// A heap that is spent does not come here: a session is not used after memory was wanting.
+impl From<HeapFault> for RunFault {
+    ghost use Rattle.session_core.specs.declared.session.RunFault.TheVariants.{OutOfMemory};
+
+    ghost from_gives = { λ _ e. e ≡ OutOfMemory };
+
+    fn from(_: HeapFault) -> Self {
+        RunFault::OutOfMemory
+    }
+}
+
 impl<T: Drop> From<AllocFailed<T>> for RunFault {
-    ghost use Rattle.replay_top.specs.declared.session.RunFault.TheVariants.{OutOfMemory};
+    ghost use Rattle.session_core.specs.declared.session.RunFault.TheVariants.{OutOfMemory};
 
     ghost from_gives = { λ _ e. e ≡ OutOfMemory };
 
@@ -47,17 +57,30 @@ impl<T: Drop> From<AllocFailed<T>> for RunFault {
 
 /// What the lines before the first command gave. The types go to the heap at the first command.
 #[derive(Drop)]
-pub(crate) struct Session {
+pub struct Session {
     pub(crate) alloc: Global,
     pub(crate) settings: Settings,
+    // The numbers of the settings that were set, in order.
     pub(crate) names: Vec<u8>,
+    // The types, until the heap has them.
     pub(crate) types: Option<TypeTable>,
 }
 
+impl Model for Session {
+    ghost use Rattle.store_model.specs.Checks.{AreInRange};
+    ghost use Rattle.session_core.specs.Seen.{SessionSeen};
+
+    ghost Value = { SessionSeen };
+
+    ghost view = { λ s. record { settings = s.settings; names = s.names.items; types = s.types } };
+
+    ghost invariant = { λ s. AreInRange s.settings };
+}
+
 impl Session {
-    /// Nothing is set, and no type is there.
+    /// Nothing is set, and no type is there. The error is want of memory.
     pub fn new(alloc: Global) -> Result<Self, AllocError>
-        ensures { IfOk result (λ session. (session.settings ≡ Settings.DEFAULT) × (session.names.items ≡ []) × (session.types ≡ Some [])) }
+        ensures { IfOk result (λ session. session ≡ record { settings = defaults; names = []; types = Some [] }) }
     {
         Ok(Session {
             alloc,
@@ -67,15 +90,16 @@ impl Session {
         })
     }
 
-    /// Does an item, and appends its lines. After want of memory nothing is said of the session.
+    /// Does an item of a script, and appends its lines. The heap is started at the first command that is not refused.
+    /// A refusal changes nothing. After want of memory nothing is said of the session.
     pub fn item(
         &mut self,
         heap: &mut Heap,
         item: &Item,
         out: &mut Vec<Line>,
     ) -> Result<(), RunFault>
-        requires heap { HasHeap self.old heap.old }
-        ensures { (p : Progress) → StandsAt self.old heap.old p → Answers p item.now self.new heap.new out.old.items out.new.items result }
+        requires { IsPlaced self.old heap.old }
+        ensures answers { (at : Progress) → StandsAt self.old heap.old at → Answers at item.now self.new heap.new out.old.items out.new.items result }
     {
         if let Some(reason) = self.refusal(heap, item) {
             return Err(RunFault::Malformed(reason));
@@ -93,6 +117,7 @@ impl Session {
 
     /// Sets a setting.
     fn set(&mut self, name: u8, value: u64) -> Result<(), AllocError>
+        requires { is_outside (slice_get ranges name) value ≡ false }
         ensures { OnOk result (Sets self.old self.new name value) }
     {
         self.names.push(name)?;
@@ -114,13 +139,13 @@ impl Session {
     }
 
     /// Starts the heap at the first command.
-    fn begin(&mut self, heap: &mut Heap) -> Result<(), AllocError>
-        requires { HasHeap self.old heap.old }
+    fn begin(&mut self, heap: &mut Heap) -> Result<(), HeapFault>
+        requires { IsPlaced self.old heap.old }
         ensures { OnOk result (Begins self.old self.new heap.old heap.new) }
     {
-        if let Some(types) = self.types.take() {
-            heap.start(self.alloc, &self.settings, types)?;
-        }
-        Ok(())
+        let Some(types) = self.types.take() else {
+            return Ok(());
+        };
+        heap.start(self.alloc, &self.settings, types)
     }
 }

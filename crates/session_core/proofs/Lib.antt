@@ -1,0 +1,4 @@
+pub mod Ranges
+pub mod Looks
+pub mod Doing
+pub mod Items
