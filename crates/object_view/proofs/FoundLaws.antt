@@ -1,5 +1,5 @@
 -- The object of a birth is the one that is read at its place, and what is read there are its fields.
-use Rattle.std.proofs.Common.{◌≡◌, ◌≢◌, ℕ, zero, suc, ◌+◌, ◌<◌, ◌≤◌, IsTrue, ◌==◌, List, [], ◌∷◌, Option, Some, None, length, map, get_or, slice_get, option_and_then, refl, sym, ap, ◌∙◌, subst, inl, inr, arith}
+use Rattle.std.proofs.Common.{◌≡◌, ℕ, zero, suc, ◌+◌, ◌<◌, IsTrue, List, [], ◌∷◌, Option, Some, None, length, map, get_or, slice_get, option_and_then, refl, sym, ap, ◌∙◌, inl, inr, arith}
 use Rattle.std.proofs.lemmas.Bool.Decides.{eqb_tells}
 use Rattle.std.proofs.lemmas.List.{length-map}
 use Rattle.type_table.specs.declared.info.Shape.{Shape}
@@ -7,7 +7,7 @@ use Rattle.type_table.specs.declared.info.Shape.TheVariants.{Fixed, IntArray, Re
 use Rattle.type_table.specs.declared.info.TypeInfo.{TypeInfo}
 use Rattle.type_table.specs.Table.{Table}
 use Rattle.type_table.specs.Words.{words_in}
-use Rattle.store_model.specs.Layout.{Layout, layout_of}
+use Rattle.store_model.specs.Layout.{layout_of}
 use Rattle.store_model.specs.Object.{Object, words_of}
 use Rattle.store_model.specs.Store.{object_at}
 use Rattle.store_model.specs.Slots.{ref_in}
@@ -15,7 +15,7 @@ use Rattle.store_model.specs.Sets.{is_in}
 use Rattle.store_model.specs.ObjectWords.{words_from, renamed, type_id_at, info_at, layout_at, words_at, target_of, object_from}
 use Rattle.store_model.specs.Holds.{HoldsObjects, IsPointer}
 use Rattle.object_view.proofs.WordLaws.{is_in-head, is_in-tail, is_in-cases, is_in-nil, length-words_from, get_or-words_from}
-use Rattle.object_view.proofs.LayoutLaws.{IsLaidOut, laid_out, birth-from}
+use Rattle.object_view.proofs.LayoutLaws.{laid_out, birth-from}
 
 -- the first object of a birth, where each place has a birth of its own
 found-first : (f : ℕ → Object) (name : ℕ → ℕ) (ps : List ℕ) (p : ℕ)

@@ -1,5 +1,5 @@
 -- What changes no object: words outside all objects, and the flags of headers. And all objects changed by one function.
-use Rattle.std.proofs.Common.{◌≡◌, ◌≢◌, ℕ, ◌+◌, ◌%◌, ◌<◌, ◌≤◌, ◌⊎◌, true, false, IsTrue, ◌==◌, if◌then◌else◌, List, [], ◌∷◌, Some, map, refl, sym, ap, ap₂, ◌∙◌, subst, inl, inr, arith}
+use Rattle.std.proofs.Common.{◌≡◌, ◌≢◌, ℕ, ◌+◌, ◌%◌, ◌<◌, IsTrue, List, [], ◌∷◌, map, refl, sym, ap, ◌∙◌, subst, inl, inr, arith}
 use Rattle.std.proofs.lemmas.Bool.Decides.{eqb_tells}
 use Rattle.std.proofs.lemmas.Simd.{map-map}
 use Rattle.type_table.specs.declared.info.TypeInfo.{TypeInfo}
@@ -7,13 +7,13 @@ use Rattle.type_table.specs.Table.{Table}
 use Rattle.store_model.specs.Layout.{Layout}
 use Rattle.store_model.specs.Object.{Object}
 use Rattle.store_model.specs.Sets.{is_in}
-use Rattle.store_model.specs.ObjectWords.{updated, type_id_at, info_at, layout_at, words_at, object_of, object_from, Covers}
+use Rattle.store_model.specs.ObjectWords.{updated, type_id_at, layout_at, object_from, Covers}
 use Rattle.store_model.specs.Holds.{HoldsObjects, IsPointer}
 use Rattle.object_header.specs.declared.flags.Flag.{Flag}
 use Rattle.object_header.specs.Words.{with_flag, without_flag}
 use Rattle.object_header.proofs.WordLaws.{type_of-with_flag, type_of-without_flag, IsHeader-with_flag, IsHeader-without_flag}
 use Rattle.object_view.proofs.WordLaws.{updated-here, updated-other, map-same, words_from-same}
-use Rattle.object_view.proofs.LayoutLaws.{IsLaidOut, laid_out, SameAt, KeepsLayout, keeps-same, layout_at-same, object_from-same, object_from-is, object_from-of}
+use Rattle.object_view.proofs.LayoutLaws.{laid_out, SameAt, KeepsLayout, keeps-same, layout_at-same, object_from-same, object_from-is, object_from-of}
 use Rattle.object_view.proofs.ChangeLaws.{covers-kept}
 
 -- Each object is changed by one function, and keeps its type, its birth and its layout.
