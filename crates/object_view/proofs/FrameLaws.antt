@@ -147,3 +147,19 @@ pub flag_clear_holds : {types : Table TypeInfo} {w name : ℕ → ℕ} {met plac
     → HoldsObjects types w met places name kept → IsTrue (is_in p places)
     → HoldsObjects types (updated w p (without_flag (w p) flag)) met places name kept
 flag_clear_holds {w = w} p flag h t = header_holds p (without_flag (w p) flag) h t (type_of-without_flag (w p) flag) (IsHeader-without_flag (w p) flag (h.header p t))
+
+none-there : (p : ℕ) → IsTrue (is_in p []) → ⊥
+none-there p t = let no_member : ⊥ = cc in no_member
+
+-- Any words hold no objects at no places.
+pub none_hold : (types : Table TypeInfo) (w : ℕ → ℕ) (met : List ℕ) (name : ℕ → ℕ) → HoldsObjects types w met [] name []
+none_hold types w met name = record {
+  reads = refl;
+  typed = λ p t. absurd (none-there p t);
+  header = λ p t. absurd (none-there p t);
+  above = λ p t. absurd (none-there p t);
+  named = λ p t. absurd (none-there p t);
+  apart = λ p q at t u c d. absurd (none-there p t);
+  differ = λ p q t u e. absurd (none-there p t);
+  closed = λ p j t l. absurd (none-there p t);
+}

@@ -1,5 +1,6 @@
 -- A new object is read as it is born, and is held beside the others.
 use Rattle.std.proofs.Common.{◌≡◌, ◌≢◌, ℕ, zero, suc, ◌+◌, ◌%◌, ◌<◌, ◌≤◌, ◌⊎◌, true, IsTrue, ◌==◌, if◌then◌else◌, List, [], ◌∷◌, ◌++◌, Some, None, length, map, get_or, replicate, refl, sym, ap, ap₂, ◌∙◌, subst, inl, inr, arith, mod-eq_of_lt}
+use Rattle.std.specs.List.{All}
 use Rattle.std.proofs.lemmas.List.{get_or-replicate, length-replicate}
 use Rattle.std.proofs.lemmas.Bool.{ne_eqb, eq-eqb, cases_lt}
 use Rattle.type_table.specs.declared.info.Shape.{Shape}
@@ -165,10 +166,17 @@ more-pointers : (met : List ℕ) (a x : ℕ) → IsPointer met x → IsPointer (
 more-pointers met a x (inl e) = inl e
 more-pointers met a x (inr t) = inr (is_in-before met a x t)
 
-names-agree : {types : Table TypeInfo} {w : ℕ → ℕ} {met places : List ℕ} {a n : ℕ} (name : ℕ → ℕ) (birth x : ℕ)
+-- names stay where references may lead, and so do lists of what they lead to
+pub names-agree : {types : Table TypeInfo} {w : ℕ → ℕ} {met places : List ℕ} {a n : ℕ} (name : ℕ → ℕ) (birth x : ℕ)
     → IsFree types w met places a n → IsPointer met x → renamed (updated name a birth) x ≡ renamed name x
 names-agree name birth x free (inl e) = rw e refl
 names-agree {a = a} name birth x free (inr t) = ap (λ b. if x == 0 then None else Some b) (updated-other name a birth x (free.unmet x t))
+
+pub names-list : {types : Table TypeInfo} {w : ℕ → ℕ} {met places : List ℕ} {a n : ℕ} (name : ℕ → ℕ) (birth : ℕ) (xs : List ℕ)
+    → IsFree types w met places a n → All (IsPointer met) xs → map (renamed (updated name a birth)) xs ≡ map (renamed name) xs
+names-list name birth [] free all = refl
+names-list name birth (x ∷ xs) free all =
+    ap₂ (λ y ys. y ∷ ys) (names-agree name birth x free (all 0 0 (omega arith))) (names-list name birth xs free (λ k d l. all (suc k) d (omega (arith, l))))
 
 not-born : {types : Table TypeInfo} {w : ℕ → ℕ} {met places : List ℕ} {a n : ℕ} (q : ℕ) → IsFree types w met places a n → 0 < n
     → IsTrue (is_in q places) → q ≢ a
