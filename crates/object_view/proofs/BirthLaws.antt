@@ -1,22 +1,16 @@
 -- An object is added at free words, and a new one is read as it is born.
-use Rattle.std.proofs.Common.{◌≡◌, ◌≢◌, ℕ, zero, suc, ◌+◌, ◌%◌, ◌<◌, ◌≤◌, ◌⊎◌, IsTrue, ◌==◌, if◌then◌else◌, List, [], ◌∷◌, ◌++◌, Option, Some, None, length, map, get_or, replicate, refl, sym, ap, ap₂, ◌∙◌, subst, inl, inr, arith, mod-eq_of_lt}
+use Rattle.std.proofs.Common.{◌≡◌, ◌≢◌, ℕ, zero, suc, ◌+◌, ◌<◌, ◌≤◌, ◌⊎◌, IsTrue, List, [], ◌∷◌, ◌++◌, map, refl, sym, ap, ap₂, ◌∙◌, subst, inl, inr, arith}
 use Rattle.std.specs.Prelude.{IsSome}
-use Rattle.std.proofs.lemmas.List.{get_or-replicate, length-replicate, map-append}
-use Rattle.std.proofs.lemmas.Bool.{ne_eqb, eq-eqb}
-use Rattle.type_table.specs.declared.info.Shape.{Shape}
-use Rattle.type_table.specs.declared.info.Shape.TheVariants.{Fixed, IntArray, RefArray, Weak}
+use Rattle.std.proofs.lemmas.List.{map-append}
 use Rattle.type_table.specs.declared.info.TypeInfo.{TypeInfo}
 use Rattle.type_table.specs.Table.{Table, value_at}
-use Rattle.type_table.specs.Words.{words_in}
-use Rattle.store_model.specs.Layout.{Layout, layout_of}
-use Rattle.store_model.specs.Object.{Object, new_ints, new_refs}
-use Rattle.store_model.specs.Birth.{Request, newborn}
+use Rattle.store_model.specs.Layout.{Layout}
+use Rattle.store_model.specs.Object.{Object}
 use Rattle.store_model.specs.Sets.{is_in}
-use Rattle.store_model.specs.ObjectWords.{words_from, renamed, type_id_at, info_or_weak, info_at, layout_at, words_at, target_of, object_of, object_from, Covers}
+use Rattle.store_model.specs.ObjectWords.{words_from, renamed, type_id_at, info_at, layout_at, target_of, object_from, Covers}
 use Rattle.store_model.specs.Holds.{HoldsObjects, IsPointer}
-use Rattle.object_view.specs.Births.{born_words}
-use Rattle.object_view.proofs.WordLaws.{map-same, words_from-zeros, is_in-append, is_in-last, is_in-before}
-use Rattle.object_view.proofs.LayoutLaws.{IsLaidOut, laid_out, weak-at, SameAt, KeepsLayout, keeps-same, target_of-same, object_from-same, object_from-of, birth-from}
+use Rattle.object_view.proofs.WordLaws.{map-same, is_in-append}
+use Rattle.object_view.proofs.LayoutLaws.{laid_out, weak-at, SameAt, keeps-same, target_of-same, object_from-same, object_from-of}
 use Rattle.object_view.proofs.ChangeLaws.{covers-kept}
 
 -- names that agree on the places of references

@@ -1,5 +1,5 @@
 -- What a change within one object leaves of the objects that words hold.
-use Rattle.std.proofs.Common.{◌≡◌, ◌≢◌, ℕ, ◌+◌, ◌%◌, ◌<◌, ◌≤◌, ◌⊎◌, true, false, IsTrue, ◌==◌, if◌then◌else◌, List, Some, map, refl, sym, ap, ◌∙◌, subst, inl, inr, arith}
+use Rattle.std.proofs.Common.{◌≡◌, ◌≢◌, ℕ, ◌+◌, ◌%◌, ◌<◌, ◌≤◌, ◌⊎◌, true, false, IsTrue, ◌==◌, if◌then◌else◌, List, Some, map, sym, ap, ◌∙◌, subst, inl, inr, arith}
 use Rattle.std.proofs.lemmas.Bool.{ne_eqb, eq-eqb, cases_lt}
 use Rattle.std.proofs.lemmas.Bool.Decides.{eqb_tells}
 use Rattle.std.proofs.lemmas.Simd.{map-map}
@@ -12,7 +12,7 @@ use Rattle.store_model.specs.Sets.{is_in}
 use Rattle.store_model.specs.ObjectWords.{updated, type_id_at, layout_at, words_at, object_from, Covers}
 use Rattle.store_model.specs.Holds.{HoldsObjects, IsPointer}
 use Rattle.object_view.proofs.WordLaws.{updated-here, updated-other, map-same}
-use Rattle.object_view.proofs.LayoutLaws.{IsLaidOut, laid_out, SameAt, KeepsLayout, keeps-same, layout_at-same, object_from-same, birth-from}
+use Rattle.object_view.proofs.LayoutLaws.{laid_out, SameAt, KeepsLayout, keeps-same, layout_at-same, object_from-same, birth-from}
 
 -- The words v are the words w but within the object at p, whose type, birth and layout stay.
 pub record Changes (types : Table TypeInfo) (v w : ℕ → ℕ) (met places : List ℕ) (p : ℕ) : Type 0 where

@@ -1,13 +1,13 @@
 -- An object that is copied elsewhere is read there as it was.
-use Rattle.std.proofs.Common.{◌≡◌, ℕ, ◌+◌, ◌-◌, ◌%◌, ◌<◌, ◌≤◌, List, refl, sym, ap, ap₂, ◌∙◌, subst, arith}
+use Rattle.std.proofs.Common.{◌≡◌, ℕ, ◌+◌, ◌-◌, ◌%◌, ◌<◌, ◌≤◌, refl, sym, ap, ◌∙◌, subst, arith}
 use Rattle.type_table.specs.declared.info.Shape.{Shape}
 use Rattle.type_table.specs.declared.info.Shape.TheVariants.{Fixed, IntArray, RefArray, Weak}
 use Rattle.type_table.specs.declared.info.TypeInfo.{TypeInfo}
 use Rattle.type_table.specs.Table.{Table, value_at}
 use Rattle.store_model.specs.Layout.{Layout, layout_of}
-use Rattle.store_model.specs.ObjectWords.{words_from, renamed, type_id_at, info_or_weak, info_at, layout_at, words_at, target_of, object_of, object_from}
+use Rattle.store_model.specs.ObjectWords.{words_from, renamed, type_id_at, info_or_weak, info_at, layout_at, words_at, target_of, object_from}
 use Rattle.object_view.proofs.WordLaws.{words_from-shift}
-use Rattle.object_view.proofs.LayoutLaws.{IsLaidOut, laid_out, weak-at, target_of-same, layout_of-same, object_from-of}
+use Rattle.object_view.proofs.LayoutLaws.{laid_out, weak-at, target_of-same, layout_of-same, object_from-of}
 
 -- the words of the object at b stand from a on
 pub record IsCopied (types : Table TypeInfo) (v w : ℕ → ℕ) (a b : ℕ) : Type 0 where

@@ -1,5 +1,5 @@
 -- A whole number, a reference or a target is written: the object that has it changes, and no other.
-use Rattle.std.proofs.Common.{◌≡◌, ℕ, ◌+◌, ◌<◌, ◌≤◌, IsTrue, List, Some, Option, map, set, refl, sym, ap, ◌∙◌, arith}
+use Rattle.std.proofs.Common.{◌≡◌, ℕ, ◌+◌, ◌<◌, ◌≤◌, IsTrue, List, Some, Option, set, refl, sym, ap, ◌∙◌, arith}
 use Rattle.std.proofs.lemmas.List.{map-set}
 use Rattle.type_table.specs.declared.info.Shape.{Shape}
 use Rattle.type_table.specs.declared.info.Shape.TheVariants.{Fixed, IntArray, RefArray, Weak}
@@ -9,11 +9,11 @@ use Rattle.store_model.specs.Layout.{Layout}
 use Rattle.store_model.specs.Object.{Object}
 use Rattle.store_model.specs.Slots.{changed_at, with_int, with_ref}
 use Rattle.store_model.specs.Sets.{is_in}
-use Rattle.store_model.specs.ObjectWords.{words_from, updated, renamed, type_id_at, info_at, layout_at, words_at, target_of, object_of, object_from}
+use Rattle.store_model.specs.ObjectWords.{words_from, updated, renamed, type_id_at, info_at, layout_at, target_of, object_of, object_from}
 use Rattle.store_model.specs.Holds.{HoldsObjects, IsPointer}
 use Rattle.object_view.proofs.WordLaws.{updated-here, updated-other, words_from-same, words_from-set}
-use Rattle.object_view.proofs.LayoutLaws.{IsLaidOut, laid_out, weak-at, target_of-same, object_from-is, object_from-of}
-use Rattle.object_view.proofs.ChangeLaws.{Changes, changed_holds, changes-updated, keeps-updated}
+use Rattle.object_view.proofs.LayoutLaws.{laid_out, weak-at, target_of-same, object_from-is, object_from-of}
+use Rattle.object_view.proofs.ChangeLaws.{changed_holds, changes-updated, keeps-updated}
 
 -- the object that is read where a word behind its header was written
 written-is : (types : Table TypeInfo) (name w : ℕ → ℕ) (p at x : ℕ) → (layout_at types w p).int_start ≤ at

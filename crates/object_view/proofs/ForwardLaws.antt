@@ -1,5 +1,5 @@
 -- References follow objects to where they moved: each is overwritten by a place of the same name, and no object changes.
-use Rattle.std.proofs.Common.{◌≡◌, ◌≢◌, ℕ, zero, suc, ◌+◌, ◌<◌, ◌≤◌, ◌⊎◌, Bool, true, false, IsTrue, ◌==◌, if◌then◌else◌, List, [], ◌∷◌, Option, Some, None, map, set, get_or, refl, sym, ap, ap₂, ◌∙◌, subst, inl, inr, arith}
+use Rattle.std.proofs.Common.{◌≡◌, ◌≢◌, ℕ, ◌+◌, ◌<◌, ◌≤◌, ◌⊎◌, Bool, true, false, IsTrue, ◌==◌, if◌then◌else◌, List, [], ◌∷◌, Option, Some, map, set, get_or, refl, sym, ap, ap₂, ◌∙◌, subst, inl, inr, arith}
 use Rattle.std.proofs.lemmas.Bool.{ne_eqb, eq-eqb, cases_lt}
 use Rattle.std.proofs.lemmas.List.{set-get_or}
 use Rattle.type_table.specs.declared.info.Shape.{Shape}
@@ -13,10 +13,10 @@ use Rattle.store_model.specs.Sets.{is_in}
 use Rattle.store_model.specs.ObjectWords.{words_from, updated, renamed, info_at, layout_at, words_at, object_from, Covers}
 use Rattle.store_model.specs.Holds.{HoldsObjects, IsPointer}
 use Rattle.object_view.specs.Moving.{place_now, HasLeft, IsMoving}
-use Rattle.object_view.proofs.WordLaws.{updated-here, updated-other, get_or-words_from}
-use Rattle.object_view.proofs.LayoutLaws.{IsLaidOut, laid_out, weak-at, KeepsLayout}
+use Rattle.object_view.proofs.WordLaws.{get_or-words_from}
+use Rattle.object_view.proofs.LayoutLaws.{laid_out, KeepsLayout}
 use Rattle.object_view.proofs.ChangeLaws.{Changes, changed_holds, changes-updated, each-keeps, covers-kept}
-use Rattle.object_view.proofs.FieldLaws.{ref-written, with_target, target-written}
+use Rattle.object_view.proofs.FieldLaws.{ref-written, target-written}
 use Rattle.object_view.proofs.FoundLaws.{refs-from, get_or-map, target-from}
 
 same-either : (b : Bool) (o : Object) → (if b then o else o) ≡ o

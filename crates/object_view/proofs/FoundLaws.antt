@@ -1,5 +1,6 @@
 -- The object of a birth is the one that is read at its place, and what is read there are its fields.
-use Rattle.std.proofs.Common.{◌≡◌, ◌≢◌, ℕ, zero, suc, ◌+◌, ◌<◌, ◌≤◌, IsTrue, ◌==◌, List, [], ◌∷◌, Option, Some, None, length, map, get_or, slice_get, option_and_then, refl, sym, ap, ◌∙◌, subst, inl, inr, arith}
+use Rattle.std.proofs.Common.{◌≡◌, ℕ, zero, suc, ◌+◌, ◌<◌, IsTrue, List, [], ◌∷◌, Option, Some, None, length, map, get_or, slice_get, option_and_then, refl, sym, ap, ◌∙◌, inl, inr, arith, sum_by}
+use Rattle.std.specs.List.{fold}
 use Rattle.std.proofs.lemmas.Bool.Decides.{eqb_tells}
 use Rattle.std.proofs.lemmas.List.{length-map}
 use Rattle.type_table.specs.declared.info.Shape.{Shape}
@@ -7,15 +8,15 @@ use Rattle.type_table.specs.declared.info.Shape.TheVariants.{Fixed, IntArray, Re
 use Rattle.type_table.specs.declared.info.TypeInfo.{TypeInfo}
 use Rattle.type_table.specs.Table.{Table}
 use Rattle.type_table.specs.Words.{words_in}
-use Rattle.store_model.specs.Layout.{Layout, layout_of}
+use Rattle.store_model.specs.Layout.{layout_of}
 use Rattle.store_model.specs.Object.{Object, words_of}
-use Rattle.store_model.specs.Store.{object_at}
+use Rattle.store_model.specs.Store.{object_at, kept_words}
 use Rattle.store_model.specs.Slots.{ref_in}
 use Rattle.store_model.specs.Sets.{is_in}
 use Rattle.store_model.specs.ObjectWords.{words_from, renamed, type_id_at, info_at, layout_at, words_at, target_of, object_from}
 use Rattle.store_model.specs.Holds.{HoldsObjects, IsPointer}
 use Rattle.object_view.proofs.WordLaws.{is_in-head, is_in-tail, is_in-cases, is_in-nil, length-words_from, get_or-words_from}
-use Rattle.object_view.proofs.LayoutLaws.{IsLaidOut, laid_out, birth-from}
+use Rattle.object_view.proofs.LayoutLaws.{laid_out, birth-from}
 
 -- the first object of a birth, where each place has a birth of its own
 found-first : (f : ℕ → Object) (name : ℕ → ℕ) (ps : List ℕ) (p : ℕ)
@@ -161,3 +162,15 @@ items-at types w p = items-of (info_at types w p).shape p (w (p + 2))
 pub words-from : (types : Table TypeInfo) (name w : ℕ → ℕ) (p : ℕ) → words_of (object_from types name w p) ≡ words_at types w p
 words-from types name w p =
     rw (info-from types name w p, length-ints types name w p, length-refs types name w p) (items-at types w p)
+
+sum-from : (f : Object → ℕ) (g : ℕ → Object) (h : ℕ → ℕ) (ps : List ℕ) (n : ℕ) → ((p : ℕ) → f (g p) ≡ h p)
+    → fold (λ a x. a + f x) n (map g ps) ≡ fold (λ a p. a + h p) n ps
+sum-from f g h [] n same = refl
+sum-from f g h (p ∷ ps) n same =
+    sum-from f g h ps (n + f (g p)) same ∙ ap (λ k. fold (λ a p. a + h p) (n + k) ps) (same p)
+
+-- the words that the store counts of its objects are those that they take
+pub kept_words-held : {types : Table TypeInfo} {w name : ℕ → ℕ} {met places : List ℕ} {kept : List Object} → HoldsObjects types w met places name kept
+    → kept_words kept ≡ sum_by (words_at types w) places
+kept_words-held {types = types} {w = w} {name = name} {places = places} h =
+    ap kept_words h.reads ∙ sum-from words_of (object_from types name w) (words_at types w) places 0 (words-from types name w)

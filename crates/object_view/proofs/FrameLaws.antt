@@ -1,5 +1,5 @@
 -- What changes no object: words outside all objects, and the flags of headers. And all objects changed by one function.
-use Rattle.std.proofs.Common.{◌≡◌, ◌≢◌, ℕ, ◌+◌, ◌%◌, ◌<◌, ◌≤◌, ◌⊎◌, true, false, IsTrue, ◌==◌, if◌then◌else◌, List, [], ◌∷◌, Some, map, refl, sym, ap, ap₂, ◌∙◌, subst, inl, inr, arith}
+use Rattle.std.proofs.Common.{◌≡◌, ◌≢◌, ℕ, ◌+◌, ◌%◌, ◌<◌, IsTrue, List, [], ◌∷◌, map, refl, sym, ap, ◌∙◌, subst, inl, inr, arith}
 use Rattle.std.proofs.lemmas.Bool.Decides.{eqb_tells}
 use Rattle.std.proofs.lemmas.Simd.{map-map}
 use Rattle.type_table.specs.declared.info.TypeInfo.{TypeInfo}
@@ -7,13 +7,13 @@ use Rattle.type_table.specs.Table.{Table}
 use Rattle.store_model.specs.Layout.{Layout}
 use Rattle.store_model.specs.Object.{Object}
 use Rattle.store_model.specs.Sets.{is_in}
-use Rattle.store_model.specs.ObjectWords.{updated, type_id_at, info_at, layout_at, words_at, object_of, object_from, Covers}
+use Rattle.store_model.specs.ObjectWords.{updated, type_id_at, layout_at, object_from, Covers}
 use Rattle.store_model.specs.Holds.{HoldsObjects, IsPointer}
 use Rattle.object_header.specs.declared.flags.Flag.{Flag}
 use Rattle.object_header.specs.Words.{with_flag, without_flag}
 use Rattle.object_header.proofs.WordLaws.{type_of-with_flag, type_of-without_flag, IsHeader-with_flag, IsHeader-without_flag}
 use Rattle.object_view.proofs.WordLaws.{updated-here, updated-other, map-same, words_from-same}
-use Rattle.object_view.proofs.LayoutLaws.{IsLaidOut, laid_out, SameAt, KeepsLayout, keeps-same, layout_at-same, object_from-same, object_from-is, object_from-of}
+use Rattle.object_view.proofs.LayoutLaws.{laid_out, SameAt, KeepsLayout, keeps-same, layout_at-same, object_from-same, object_from-is, object_from-of}
 use Rattle.object_view.proofs.ChangeLaws.{covers-kept}
 
 -- Each object is changed by one function, and keeps its type, its birth and its layout.
@@ -147,3 +147,19 @@ pub flag_clear_holds : {types : Table TypeInfo} {w name : ℕ → ℕ} {met plac
     → HoldsObjects types w met places name kept → IsTrue (is_in p places)
     → HoldsObjects types (updated w p (without_flag (w p) flag)) met places name kept
 flag_clear_holds {w = w} p flag h t = header_holds p (without_flag (w p) flag) h t (type_of-without_flag (w p) flag) (IsHeader-without_flag (w p) flag (h.header p t))
+
+none-there : (p : ℕ) → IsTrue (is_in p []) → ⊥
+none-there p t = let no_member : ⊥ = cc in no_member
+
+-- Any words hold no objects at no places.
+pub none_hold : (types : Table TypeInfo) (w : ℕ → ℕ) (met : List ℕ) (name : ℕ → ℕ) → HoldsObjects types w met [] name []
+none_hold types w met name = record {
+  reads = refl;
+  typed = λ p t. absurd (none-there p t);
+  header = λ p t. absurd (none-there p t);
+  above = λ p t. absurd (none-there p t);
+  named = λ p t. absurd (none-there p t);
+  apart = λ p q at t u c d. absurd (none-there p t);
+  differ = λ p q t u e. absurd (none-there p t);
+  closed = λ p j t l. absurd (none-there p t);
+}

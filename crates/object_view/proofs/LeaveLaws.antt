@@ -1,24 +1,22 @@
 -- An object is copied into free room and left behind: the objects stay, and each place that references may have holds one or was left.
-use Rattle.std.proofs.Common.{◌≡◌, ◌≢◌, ℕ, ◌+◌, ◌-◌, ◌<◌, ◌≤◌, ◌⊎◌, true, false, IsTrue, ◌==◌, if◌then◌else◌, List, ◌∷◌, Some, None, map, refl, sym, ap, ◌∙◌, subst, inl, inr, arith}
+use Rattle.std.proofs.Common.{◌≡◌, ◌≢◌, ℕ, ◌+◌, ◌<◌, ◌≤◌, ◌⊎◌, true, false, IsTrue, ◌==◌, if◌then◌else◌, List, ◌∷◌, Some, None, map, refl, sym, ap, ◌∙◌, inl, inr, arith}
 use Rattle.std.proofs.Math.Path.{fun_ext}
 use Rattle.std.proofs.lemmas.Bool.{cases_lt, cases_Bool}
-use Rattle.std.proofs.lemmas.Bool.Decides.{eqb_tells, nat_tests}
+use Rattle.std.proofs.lemmas.Bool.Decides.{nat_tests}
 use Rattle.type_table.specs.declared.info.TypeInfo.{TypeInfo}
 use Rattle.type_table.specs.Table.{Table}
 use Rattle.heap_space.specs.Runs.{within}
 use Rattle.heap_space.specs.Places.{Placed, has, word_at, with_word, with_run, run_at, lies_in_one}
-use Rattle.heap_space.proofs.Blocks.{word_at-copied, word_at-none, has-with_run, has-with_word, lies-each}
+use Rattle.heap_space.proofs.Blocks.{word_at-copied, word_at-none, has-with_run, has-with_word}
 use Rattle.store_model.specs.Object.{Object}
 use Rattle.store_model.specs.Sets.{is_in}
-use Rattle.store_model.specs.ObjectWords.{updated, renamed, layout_at, words_at, object_from, Covers}
+use Rattle.store_model.specs.ObjectWords.{updated, renamed, words_at, Covers}
 use Rattle.store_model.specs.Holds.{HoldsObjects, IsPointer}
-use Rattle.object_view.specs.Moving.{copied, moved, HasLeft, IsMoving, HasFreeRoom}
-use Rattle.object_view.proofs.WordLaws.{updated-here, updated-other, is_in-head, is_in-tail, is_in-cases}
-use Rattle.object_view.proofs.LayoutLaws.{IsLaidOut, laid_out, SameAt, keeps-same}
+use Rattle.object_view.specs.Moving.{copied, moved, HasFreeRoom}
+use Rattle.object_view.proofs.WordLaws.{updated-here, updated-other, is_in-tail}
+use Rattle.object_view.proofs.LayoutLaws.{laid_out}
 use Rattle.object_view.proofs.SpaceLaws.{word_at-written, lies-at}
-use Rattle.object_view.proofs.ChangeLaws.{covers-kept}
-use Rattle.object_view.proofs.CopyLaws.{IsCopied, IsLike, copy-like}
-use Rattle.object_view.proofs.MoveLaws.{Moves, move_holds, moved_to, IsMoved, moved-cases, moved-here, moved-there}
+use Rattle.object_view.proofs.MoveLaws.{Moves, move_holds, moved_to}
 
 -- the words of a copy and around it
 

@@ -15,4 +15,5 @@ pub mod LeaveLaws
 pub mod ForwardLaws
 pub mod MovingLaws
 pub mod WholeLaws
+pub mod MemoryLaws
 pub mod SurvivorLaws

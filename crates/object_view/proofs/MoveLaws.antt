@@ -1,21 +1,20 @@
 -- An object moves: it is copied and left behind. The objects stay as they are.
-use Rattle.std.proofs.Common.{◌≡◌, ◌≢◌, ℕ, zero, suc, ◌+◌, ◌-◌, ◌<◌, ◌≤◌, ◌⊎◌, true, false, IsTrue, ◌==◌, if◌then◌else◌, List, [], ◌∷◌, Some, None, map, refl, sym, ap, ◌∙◌, subst, inl, inr, arith}
+use Rattle.std.proofs.Common.{◌≡◌, ◌≢◌, ℕ, ◌+◌, ◌<◌, ◌≤◌, ◌⊎◌, IsTrue, ◌==◌, if◌then◌else◌, List, [], ◌∷◌, map, refl, sym, ap, ◌∙◌, subst, inl, inr, arith}
 use Rattle.std.specs.Prelude.{IsSome}
-use Rattle.std.proofs.lemmas.Bool.{ne_eqb, eq-eqb, cases_lt}
+use Rattle.std.proofs.lemmas.Bool.{ne_eqb, eq-eqb}
 use Rattle.std.proofs.lemmas.Bool.Decides.{eqb_tells}
 use Rattle.std.proofs.lemmas.Simd.{map-map}
 use Rattle.type_table.specs.declared.info.TypeInfo.{TypeInfo}
 use Rattle.type_table.specs.Table.{Table, value_at}
-use Rattle.store_model.specs.Layout.{Layout}
 use Rattle.store_model.specs.Object.{Object}
 use Rattle.store_model.specs.Sets.{is_in}
-use Rattle.store_model.specs.ObjectWords.{updated, renamed, type_id_at, info_at, layout_at, words_at, object_from, Covers}
+use Rattle.store_model.specs.ObjectWords.{renamed, layout_at, words_at, object_from, Covers}
 use Rattle.store_model.specs.Holds.{HoldsObjects, IsPointer}
 use Rattle.object_view.proofs.WordLaws.{map-same, is_in-head, is_in-tail, is_in-cases, is_in-nil}
-use Rattle.object_view.proofs.LayoutLaws.{IsLaidOut, laid_out, SameAt, keeps-same, object_from-same}
+use Rattle.object_view.proofs.LayoutLaws.{laid_out, SameAt, keeps-same, object_from-same}
 use Rattle.object_view.proofs.ChangeLaws.{covers-kept}
 use Rattle.object_view.proofs.BirthLaws.{object_from-names, StandsAdded, stands-same}
-use Rattle.object_view.proofs.CopyLaws.{IsCopied, IsLike, copy-header, copy-birth, copy-type, copy-like, copy-part, object_from-copy}
+use Rattle.object_view.proofs.CopyLaws.{IsCopied, copy-header, copy-birth, copy-type, copy-like, copy-part, object_from-copy}
 
 -- a list in which one place is replaced by another
 

@@ -9,11 +9,11 @@ use Rattle.store_model.specs.ObjectWords.{updated, words_at, Covers}
 use Rattle.store_model.specs.Holds.{HoldsObjects}
 use Rattle.object_view.specs.Moving.{moved, HasLeft, IsMoving, HasFreeRoom}
 use Rattle.object_view.proofs.WordLaws.{updated-here, updated-other, is_in-head, is_in-tail, is_in-cases}
-use Rattle.object_view.proofs.LayoutLaws.{IsLaidOut, laid_out, SameAt, keeps-same}
+use Rattle.object_view.proofs.LayoutLaws.{laid_out, SameAt, keeps-same}
 use Rattle.object_view.proofs.ChangeLaws.{covers-kept}
-use Rattle.object_view.proofs.CopyLaws.{IsLike, copy-like}
+use Rattle.object_view.proofs.CopyLaws.{copy-like}
 use Rattle.object_view.proofs.MoveLaws.{Moves, moved_to, IsMoved, moved-cases, moved-here, moved-there}
-use Rattle.object_view.proofs.LeaveLaws.{AfterMove, after-room, room-moves, outside-room, not-met}
+use Rattle.object_view.proofs.LeaveLaws.{after-room, room-moves, outside-room, not-met}
 
 -- one of two words is covered
 abbrev CoversEither : Table TypeInfo → (ℕ → ℕ) → ℕ → ℕ → ℕ → Type 0

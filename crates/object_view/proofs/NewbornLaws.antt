@@ -1,6 +1,6 @@
 -- A new object is read as it is born, and is held beside the others.
-use Rattle.std.proofs.Common.{◌≡◌, ◌≢◌, ℕ, zero, suc, ◌+◌, ◌-◌, ◌%◌, ◌<◌, ◌≤◌, ◌⊎◌, true, false, IsTrue, ◌==◌, if◌then◌else◌, List, [], ◌∷◌, ◌++◌, Option, Some, None, length, map, get_or, replicate, refl, sym, ap, ap₂, ◌∙◌, subst, inl, inr, arith, mod-eq_of_lt}
-use Rattle.std.specs.Prelude.{IsSome}
+use Rattle.std.proofs.Common.{◌≡◌, ◌≢◌, ℕ, zero, suc, ◌+◌, ◌%◌, ◌<◌, ◌≤◌, ◌⊎◌, true, IsTrue, ◌==◌, if◌then◌else◌, List, [], ◌∷◌, ◌++◌, Some, None, length, map, get_or, replicate, refl, sym, ap, ap₂, ◌∙◌, subst, inl, inr, arith, mod-eq_of_lt}
+use Rattle.std.specs.List.{All}
 use Rattle.std.proofs.lemmas.List.{get_or-replicate, length-replicate}
 use Rattle.std.proofs.lemmas.Bool.{ne_eqb, eq-eqb, cases_lt}
 use Rattle.type_table.specs.declared.info.Shape.{Shape}
@@ -9,17 +9,17 @@ use Rattle.type_table.specs.declared.info.TypeInfo.{TypeInfo}
 use Rattle.type_table.specs.Table.{Table, value_at}
 use Rattle.type_table.specs.Words.{words_in}
 use Rattle.store_model.specs.Layout.{Layout, layout_of}
-use Rattle.store_model.specs.Object.{Object, new_ints, new_refs}
+use Rattle.store_model.specs.Object.{Object}
 use Rattle.store_model.specs.Birth.{Request, newborn}
 use Rattle.store_model.specs.Slots.{changed_at}
 use Rattle.store_model.specs.Sets.{is_in}
-use Rattle.store_model.specs.ObjectWords.{words_from, updated, renamed, type_id_at, info_or_weak, info_at, layout_at, words_at, object_of, object_from, Covers}
+use Rattle.store_model.specs.ObjectWords.{updated, renamed, type_id_at, info_or_weak, info_at, layout_at, words_at, object_of, object_from, Covers}
 use Rattle.store_model.specs.Holds.{HoldsObjects, IsPointer}
 use Rattle.heap_space.specs.Places.{Placed, word_at, with_run, lies_in_one}
 use Rattle.heap_space.proofs.Blocks.{lies-each, word_at-in_run, word_at-before_run, word_at-after_run}
 use Rattle.object_view.specs.Births.{born_words}
 use Rattle.object_view.proofs.WordLaws.{updated-here, updated-other, words_from-zeros, is_in-head, is_in-tail, is_in-last, is_in-before}
-use Rattle.object_view.proofs.LayoutLaws.{IsLaidOut, laid_out, SameAt, birth-from}
+use Rattle.object_view.proofs.LayoutLaws.{laid_out, SameAt, birth-from}
 use Rattle.object_view.proofs.InitLaws.{two-words}
 use Rattle.object_view.proofs.FieldLaws.{with_target, target_holds}
 use Rattle.object_view.proofs.BirthLaws.{Adds, added_holds}
@@ -166,10 +166,17 @@ more-pointers : (met : List ℕ) (a x : ℕ) → IsPointer met x → IsPointer (
 more-pointers met a x (inl e) = inl e
 more-pointers met a x (inr t) = inr (is_in-before met a x t)
 
-names-agree : {types : Table TypeInfo} {w : ℕ → ℕ} {met places : List ℕ} {a n : ℕ} (name : ℕ → ℕ) (birth x : ℕ)
+-- names stay where references may lead, and so do lists of what they lead to
+pub names-agree : {types : Table TypeInfo} {w : ℕ → ℕ} {met places : List ℕ} {a n : ℕ} (name : ℕ → ℕ) (birth x : ℕ)
     → IsFree types w met places a n → IsPointer met x → renamed (updated name a birth) x ≡ renamed name x
 names-agree name birth x free (inl e) = rw e refl
 names-agree {a = a} name birth x free (inr t) = ap (λ b. if x == 0 then None else Some b) (updated-other name a birth x (free.unmet x t))
+
+pub names-list : {types : Table TypeInfo} {w : ℕ → ℕ} {met places : List ℕ} {a n : ℕ} (name : ℕ → ℕ) (birth : ℕ) (xs : List ℕ)
+    → IsFree types w met places a n → All (IsPointer met) xs → map (renamed (updated name a birth)) xs ≡ map (renamed name) xs
+names-list name birth [] free all = refl
+names-list name birth (x ∷ xs) free all =
+    ap₂ (λ y ys. y ∷ ys) (names-agree name birth x free (all 0 0 (omega arith))) (names-list name birth xs free (λ k d l. all (suc k) d (omega (arith, l))))
 
 not-born : {types : Table TypeInfo} {w : ℕ → ℕ} {met places : List ℕ} {a n : ℕ} (q : ℕ) → IsFree types w met places a n → 0 < n
     → IsTrue (is_in q places) → q ≢ a
@@ -251,3 +258,16 @@ weak_birth_holds {types = types} {v = v} {w = w} {name = name} {met = met} {plac
     changed-other (object_from types name w) name places birth change (λ q y. birth-from types name w q ∙ sym (h.named q y)) fresh object refl in
     subst P (ap (λ n. changed_at (Some n) change (kept ++ object ∷ [])) named
     ∙ ap (λ ks. changed_at (Some birth) change (ks ++ object ∷ [])) h.reads ∙ last ∙ ap (λ ks. ks ++ change object ∷ []) (sym h.reads)) held
+
+born-third : (s : Shape) (v w : ℕ → ℕ) (a t birth len : ℕ) → WithRun v w a (born_words s t birth len) → layout_of s a (v (a + 2)) ≡ layout_of s a len
+born-third (Fixed i r) v w a t birth len run = refl
+born-third IntArray v w a t birth len run = ap (layout_of IntArray a) (born-at 2 (a + 2) len run (omega arith) refl refl)
+born-third RefArray v w a t birth len run = ap (layout_of RefArray a) (born-at 2 (a + 2) len run (omega arith) refl refl)
+born-third Weak v w a t birth len run = refl
+
+-- where the parts of a new object lie
+pub born-layout : {types : Table TypeInfo} {v w : ℕ → ℕ} {a t birth len : ℕ} {info : TypeInfo} → BornAt types v w a t birth len info
+    → layout_at types v a ≡ layout_of info.shape a len
+unfolding layout_at
+born-layout {v = v} {w = w} {a = a} {t = t} {birth = birth} {len = len} {info = info} b =
+    ap (λ i. layout_of i.shape a (v (a + 2))) (born-info b) ∙ born-third info.shape v w a t birth len b.run

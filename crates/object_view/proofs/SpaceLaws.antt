@@ -1,9 +1,8 @@
 -- A memory as a function of places: what a write leaves, and that the words of a block have places that fit.
-use Rattle.std.proofs.Common.{◌≡◌, ◌≢◌, ℕ, zero, suc, ◌+◌, ◌-◌, ◌^◌, ◌<◌, ◌≤◌, true, ◌==◌, if◌then◌else◌, IsTrue, List, length, get_or, slice_index, refl, sym, ap, ◌∙◌, subst, inl, inr, arith}
+use Rattle.std.proofs.Common.{◌≡◌, ℕ, ◌+◌, ◌-◌, ◌^◌, ◌<◌, ◌≤◌, true, List, subst, arith}
 use Rattle.std.proofs.Math.Path.{fun_ext}
-use Rattle.std.proofs.lemmas.Bool.Decides.{eqb_tells}
 use Rattle.store_model.specs.ObjectWords.{updated}
-use Rattle.heap_space.specs.Places.{Placed, has, word_at, with_word, with_run, lies_in_one, RiseTo}
+use Rattle.heap_space.specs.Places.{Placed, has, word_at, with_word, lies_in_one, RiseTo}
 use Rattle.heap_space.specs.Memory.{Memory}
 use Rattle.heap_space.specs.Order.{IsInOrder}
 use Rattle.heap_space.proofs.Blocks.{word_at-with_word, lies-each}

@@ -1,7 +1,7 @@
 -- A view and the places of its parts.
-use Rattle.std.proofs.Common.{◌≡◌, ℕ, ◌+◌, ◌%◌, ◌^◌, ◌<◌, ◌≤◌, ◌⊎◌, true, List, Some, Option, refl, sym, ap, ap₂, ◌∙◌, subst, inl, inr, arith}
+use Rattle.std.proofs.Common.{◌≡◌, ℕ, ◌+◌, ◌%◌, ◌^◌, ◌<◌, ◌≤◌, ◌⊎◌, true, sym, ap, ap₂, ◌∙◌, subst, inl, inr, arith}
 use Rattle.type_table.specs.declared.info.Shape.{Shape}
-use Rattle.type_table.specs.declared.info.Shape.TheVariants.{Fixed, IntArray, RefArray, Weak}
+use Rattle.type_table.specs.declared.info.Shape.TheVariants.{IntArray, RefArray}
 use Rattle.type_table.specs.declared.info.TypeInfo.{TypeInfo}
 use Rattle.type_table.specs.Table.{Table, value_at}
 use Rattle.store_model.specs.Layout.{Layout, layout_of}
@@ -11,7 +11,7 @@ use Rattle.heap_space.specs.Memory.{Memory}
 use Rattle.heap_space.specs.Order.{IsInOrder}
 use Rattle.object_view.specs.declared.fields.ObjView.{ObjView}
 use Rattle.object_view.specs.Views.{HasObject, HasView, view_of, view_at}
-use Rattle.object_view.proofs.LayoutLaws.{IsLaidOut, laid_out, laid_out-of}
+use Rattle.object_view.proofs.LayoutLaws.{laid_out}
 use Rattle.object_view.proofs.SpaceLaws.{lies-at, lies-fits}
 
 -- items of a view lie in the memory

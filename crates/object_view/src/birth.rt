@@ -15,6 +15,7 @@ pub fn init(space: &mut Space, a: u64, type_id: u16, birth: u64, info: TypeInfo,
     requires { IsTrue (lies_in_one space.old.blocks a (words_in info.shape len)) }
     ensures { space.new ≡ record space.old { blocks = with_run space.old.blocks a (born_words info.shape type_id birth len) } }
 {
+    // The places of a space are below 2^63.
     let _ordered = space.arena_words();
     space.write(a, u64::from(type_id));
     space.write(a + 1, birth);
@@ -33,6 +34,7 @@ fn clear(space: &mut Space, from: u64, n: u64)
     requires { IsTrue (lies_in_one space.old.blocks from n) }
     ensures { space.new ≡ record space.old { blocks = with_run space.old.blocks from (replicate n 0) } }
 {
+    // The places of a space are below 2^63.
     let _ordered = space.arena_words();
     for i in 0..n {
         space.write(from + i, 0);

@@ -33,6 +33,7 @@ pub fn view(space: &Space, types: &TypeTable, a: u64) -> ObjView
     ensures value { result ≡ view_at types.now (word_at space.now.blocks) a }
     ensures whole { HasView space.now result a }
 {
+    // The places of a space are below 2^63.
     let _ordered = space.arena_words();
     let type_id = object_header::type_id(space.read(a));
     let birth = space.read(a + 1);
@@ -54,6 +55,7 @@ fn length_of(space: &Space, shape: Shape, a: u64) -> u64
     requires { IsTrue (lies_in_one space.now.blocks a (layout_of shape a (word_at space.now.blocks (a + 2))).words) }
     ensures { layout_of shape a result ≡ layout_of shape a (word_at space.now.blocks (a + 2)) }
 {
+    // The places of a space are below 2^63.
     let _ordered = space.arena_words();
     match shape {
         Shape::IntArray | Shape::RefArray => space.read(a + 2),

@@ -6,3 +6,6 @@ mod fields;
 
 pub use birth::init;
 pub use fields::{ObjView, int_at, ref_at, set_int, set_ref, view};
+
+#[cfg(test)]
+mod tests;

@@ -1,4 +1,4 @@
-use Rattle.std.proofs.Common.{◌≡◌, ◌+◌, ◌≤◌, subst, sym, arith}
+use Rattle.std.proofs.Common.{◌+◌, subst, sym, arith}
 use Rattle.heap_space.specs.Memory.{Memory}
 use Rattle.heap_space.proofs.Blocks.{lies-each}
 use Rattle.object_view.proofs.InitLaws.{Clears, clears-none, clears-more, clears-all}

@@ -1,6 +1,6 @@
-use Rattle.std.proofs.Common.{◌≡◌, ◌+◌, ◌≤◌, replicate, [], ◌∷◌, ap, ap₂, sym, refl, ◌∙◌, arith}
+use Rattle.std.proofs.Common.{◌+◌, replicate, [], ◌∷◌, ap, ap₂, sym, ◌∙◌, arith}
 use Rattle.type_table.specs.Words.{words_in}
-use Rattle.object_view.specs.Births.{born_words, born_rest}
+use Rattle.object_view.specs.Births.{born_rest}
 use Rattle.object_view.proofs.InitLaws.{has_room, room-writes, room-has, room-part, writes-two, writes-more, writes-word, array-room, array-rest}
 use Rattle.object_view.proofs.birth.init.Goals as goal
 

@@ -1,5 +1,4 @@
-use Rattle.std.proofs.Common.{◌+◌, arith}
-use Rattle.heap_space.specs.Places.{word_at}
+use Rattle.std.proofs.Common.{arith}
 use Rattle.object_view.proofs.ViewLaws.{has_header, Reads, lies-read, fits-read, view-read, whole-read}
 use Rattle.object_view.proofs.fields.view.Goals as goal
 
