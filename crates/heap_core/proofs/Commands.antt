@@ -52,8 +52,8 @@ pub int_is : (heap : HeapParts) (store : Store) (root item : ℕ) → HasInt hea
 int_is heap store root item has s =
     let word = word_in heap in let p = place_in heap root in let layout = layout_in heap root in
     sym (ap (λ (o : Option Object). slice_index (ints_of o) item) (object-found heap store root s has.full)
-        ∙ (ap (λ (xs : List ℕ). slice_index xs item) (ints-from heap.setup.types s.name word p)
-        ∙ get_or-words_from word layout.int_start item layout.int_count has.item_in))
+    ∙ (ap (λ (xs : List ℕ). slice_index xs item) (ints-from heap.setup.types s.name word p)
+    ∙ get_or-words_from word layout.int_start item layout.int_count has.item_in))
 
 ref-read : (name word : ℕ → ℕ) (from n item : ℕ) → item < n → ref_in (map (renamed name) (words_from word from n)) item ≡ renamed name (word (from + item))
 ref-read name word from zero item l = absurd (omega arith)
@@ -101,15 +101,23 @@ pub link_changes : (heap : HeapParts) (root item from : ℕ) → AreReady heap (
 link_changes heap root item from ready =
     let has = link_ready heap root item from ready in
     let new : HeapParts = with_word_at heap (ref_place heap root item) (place_in heap from) in
-    record { setup = refl; same_spent = refl; stands = λ store s.
-        subst (λ (b : Option ℕ). PartsStandFor new (put_ref store root item b)) (sym (slot-holds heap store from s))
-        (link_stands heap store root item (place_in heap from) s has.full has.item_in (slot-pointer heap.slots s.places from s.slots.pointers)) }
+    record {
+      setup = refl;
+      same_spent = refl;
+      stands = λ store s.
+          subst (λ (b : Option ℕ). PartsStandFor new (put_ref store root item b)) (sym (slot-holds heap store from s))
+          (link_stands heap store root item (place_in heap from) s has.full has.item_in (slot-pointer heap.slots s.places from s.slots.pointers));
+    }
 
 pub move_changes : (heap : HeapParts) (to from : ℕ)
     → Changes (heap_of heap) (heap_of (with_slot heap to (place_in heap from))) (λ store. put_in_slot store to (held store.slots from))
-move_changes heap to from = record { setup = refl; same_spent = refl; stands = λ store s.
-    subst (λ (b : Option ℕ). PartsStandFor (with_slot heap to (place_in heap from)) (put_in_slot store to b)) (sym (slot-holds heap store from s))
-    (slot_stands heap store to (place_in heap from) s (slot-pointer heap.slots s.places from s.slots.pointers)) }
+move_changes heap to from = record {
+  setup = refl;
+  same_spent = refl;
+  stands = λ store s.
+      subst (λ (b : Option ℕ). PartsStandFor (with_slot heap to (place_in heap from)) (put_in_slot store to b)) (sym (slot-holds heap store from s))
+      (slot_stands heap store to (place_in heap from) s (slot-pointer heap.slots s.places from s.slots.pointers));
+}
 
 pub drop_changes : (heap : HeapParts) (root : ℕ) → Changes (heap_of heap) (heap_of (with_slot heap root 0)) (λ store. put_in_slot store root None)
 drop_changes heap root = record { setup = refl; same_spent = refl; stands = λ store s. slot_stands heap store root 0 s (inl refl) }
@@ -119,9 +127,13 @@ pub load_changes : (heap : HeapParts) (to root item : ℕ) → AreReady heap (Lo
 load_changes heap to root item ready =
     let has = (load_ready heap to root item ready).1 in
     let place = word_in heap (ref_place heap root item) in
-    record { setup = refl; same_spent = refl; stands = λ store s.
-        subst (λ (b : Option ℕ). PartsStandFor (with_slot heap to place) (put_in_slot store to b)) (sym (ref_is heap store root item has s))
-        (slot_stands heap store to place s (ref-pointer heap store root item has s)) }
+    record {
+      setup = refl;
+      same_spent = refl;
+      stands = λ store s.
+          subst (λ (b : Option ℕ). PartsStandFor (with_slot heap to place) (put_in_slot store to b)) (sym (ref_is heap store root item has s))
+          (slot_stands heap store to place s (ref-pointer heap store root item has s));
+    }
 
 -- the birth that is read where a reference leads
 pub load_is : (heap : HeapParts) (store : Store) (to root item : ℕ) → AreReady heap (Load to root item) → PartsStandFor heap store

@@ -37,8 +37,8 @@ pub object_at-read : (read : ℕ → Object) (name : ℕ → ℕ) (places : List
 object_at-read read name [] p are t = absurd (is_in-nil p t)
 object_at-read read name (q ∷ places) p are t = elim (eqb_tells (name p) (read q).birth) [
   | inl e ↦
-    let same : q ≡ p = are.differ q p (is_in-head q places) t (sym (are.births q (is_in-head q places)) ∙ sym e.1) in
-    object_at-here (read q) (map read places) (name p) e.1 ∙ ap (λ (x : ℕ). Some (read x)) same
+      let same : q ≡ p = are.differ q p (is_in-head q places) t (sym (are.births q (is_in-head q places)) ∙ sym e.1) in
+      object_at-here (read q) (map read places) (name p) e.1 ∙ ap (λ (x : ℕ). Some (read x)) same
   | inr e ↦ elim (is_in-cases p q places t) [
     | inl same ↦ absurd (e.1 (ap name same ∙ sym (are.births q (is_in-head q places))))
     | inr u ↦ object_at-behind (read q) (map read places) (name p) e.1 ∙ object_at-read read name places p (behind read name q places are) u

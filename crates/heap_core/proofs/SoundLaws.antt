@@ -75,15 +75,15 @@ comes_from word name from (suc n) birth t =
     let zeroth : word (from + 0) ≡ word from = ap word (omega arith) in
     elim (eqb_tells (word from) 0) [
       | inl e ↦
-        let none : renamed name (word from) ≡ None = rw e.0 refl in
-        one-later (comes_from word name (from + 1) n birth (subst (λ (xs : List ℕ). IsTrue (is_in birth xs)) (nothing-first (renamed name (word from)) rest none) t))
+          let none : renamed name (word from) ≡ None = rw e.0 refl in
+          one-later (comes_from word name (from + 1) n birth (subst (λ (xs : List ℕ). IsTrue (is_in birth xs)) (nothing-first (renamed name (word from)) rest none) t))
       | inr e ↦
-        let some : renamed name (word from) ≡ Some (name (word from)) = rw e.0 refl in
-        elim (is_in-cases birth (name (word from)) (filter_map (λ x. x) rest)
-            (subst (λ (xs : List ℕ). IsTrue (is_in birth xs)) (something-first (renamed name (word from)) (name (word from)) rest some) t)) [
-          | inl is ↦ record { at = 0; within = omega arith; some = λ z. e.1 (sym zeroth ∙ z); named = is ∙ ap name (sym zeroth) }
-          | inr u ↦ one-later (comes_from word name (from + 1) n birth u)
-        ]
+          let some : renamed name (word from) ≡ Some (name (word from)) = rw e.0 refl in
+          elim (is_in-cases birth (name (word from)) (filter_map (λ x. x) rest)
+          (subst (λ (xs : List ℕ). IsTrue (is_in birth xs)) (something-first (renamed name (word from)) (name (word from)) rest some) t)) [
+            | inl is ↦ record { at = 0; within = omega arith; some = λ z. e.1 (sym zeroth ∙ z); named = is ∙ ap name (sym zeroth) }
+            | inr u ↦ one-later (comes_from word name (from + 1) n birth u)
+          ]
     ]
 
 -- a pointer that is not nil is a place
@@ -113,7 +113,7 @@ kept-reference : {types : Table TypeInfo} {word name : ℕ → ℕ} {places : Li
 kept-reference {types = types} {word = word} {name = name} {places = places} {kept = kept} holds o x y at t =
     let layout = layout_at types word at.place in
     let refs : o.refs ≡ map (renamed name) (words_from word layout.ref_start layout.ref_count) =
-        ap (λ (u : Object). u.refs) at.is ∙ refs-from types name word at.place in
+    ap (λ (u : Object). u.refs) at.is ∙ refs-from types name word at.place in
     let comes = comes_from word name layout.ref_start layout.ref_count y (subst (λ (rs : List (Option ℕ)). IsTrue (is_in y (filter_map (λ r. r) rs))) refs t) in
     let few : comes.at < layout.pointer_count = omega (arith, comes.within, (laid_out types word at.place).refs) in
     let there = pointer-some places (word (layout.ref_start + comes.at)) (holds.closed at.place comes.at at.there few) comes.some in
@@ -125,7 +125,7 @@ kept-target : {types : Table TypeInfo} {word name : ℕ → ℕ} {places : List 
 kept-target {types = types} {word = word} {name = name} {places = places} {kept = kept} holds o x t at is =
     let layout = layout_at types word at.place in
     let read : target_of (info_at types word at.place).shape (renamed name (word layout.ref_start)) ≡ Some t =
-        sym (target-from types name word at.place) ∙ (ap (λ (u : Object). u.target) (sym at.is) ∙ is) in
+    sym (target-from types name word at.place) ∙ (ap (λ (u : Object). u.target) (sym at.is) ∙ is) in
     let weak = some-target (info_at types word at.place).shape (renamed name (word layout.ref_start)) t read in
     let named = renamed-some name (word layout.ref_start) t weak.1 in
     let few : 0 < layout.pointer_count = omega (arith, (weak-at types word at.place weak.0).0) in
@@ -163,17 +163,17 @@ slot-kept holds [] pointers x t = absurd (is_in-nil x t)
 slot-kept {name = name} {places = places} {kept = kept} holds (p ∷ slots) pointers x t =
     let rest : List (Option ℕ) = map (renamed name) slots in
     let onward : IsTrue (is_in x (filter_map (λ s. s) rest)) → IsTrue (is_kept kept x) =
-        slot-kept holds slots (λ q u. pointers q (is_in-tail q p slots u)) x in
+    slot-kept holds slots (λ q u. pointers q (is_in-tail q p slots u)) x in
     elim (eqb_tells p 0) [
       | inl e ↦
-        let none : renamed name p ≡ None = rw e.0 refl in
-        onward (subst (λ (xs : List ℕ). IsTrue (is_in x xs)) (nothing-first (renamed name p) rest none) t)
+          let none : renamed name p ≡ None = rw e.0 refl in
+          onward (subst (λ (xs : List ℕ). IsTrue (is_in x xs)) (nothing-first (renamed name p) rest none) t)
       | inr e ↦
-        let some : renamed name p ≡ Some (name p) = rw e.0 refl in
-        elim (is_in-cases x (name p) (filter_map (λ s. s) rest) (subst (λ (xs : List ℕ). IsTrue (is_in x xs)) (something-first (renamed name p) (name p) rest some) t)) [
-          | inl is ↦ subst (λ (b : ℕ). IsTrue (is_kept kept b)) (sym is) (is_kept-at holds p (pointer-some places p (pointers p (is_in-head p slots)) e.1))
-          | inr u ↦ onward u
-        ]
+          let some : renamed name p ≡ Some (name p) = rw e.0 refl in
+          elim (is_in-cases x (name p) (filter_map (λ s. s) rest) (subst (λ (xs : List ℕ). IsTrue (is_in x xs)) (something-first (renamed name p) (name p) rest some) t)) [
+            | inl is ↦ subst (λ (b : ℕ). IsTrue (is_kept kept b)) (sym is) (is_kept-at holds p (pointer-some places p (pointers p (is_in-head p slots)) e.1))
+            | inr u ↦ onward u
+          ]
     ]
 
 -- nothing is an element of the empty list
@@ -188,11 +188,11 @@ pub sound_of : {types : Table TypeInfo} {word name : ℕ → ℕ} {places : List
 unfolding IsDistinct
 sound_of {types = types} {word = word} {name = name} {places = places} settings next kept slots stored holds in_slots rise =
     let births_are : map (λ (o : Object). o.birth) kept ≡ map name places =
-        ap (map (λ (o : Object). o.birth)) holds.reads
-        ∙ map-births (λ (o : Object). o.birth) (object_from types name word) name places (are_read holds).births in
+    ap (map (λ (o : Object). o.birth)) holds.reads
+    ∙ map-births (λ (o : Object). o.birth) (object_from types name word) name places (are_read holds).births in
     let all_births : births_in (plain_store settings next kept stored) ≡ map name places = append-nil (map (λ (o : Object). o.birth) kept) ∙ births_are in
     let slot_births : roots_of (plain_store settings next kept stored) ≡ filter_map (λ s. s) (map (renamed name) slots) =
-        append-nil (filter_map (λ (s : Option ℕ). s) stored) ∙ ap (filter_map (λ (s : Option ℕ). s)) in_slots.named in
+    append-nil (filter_map (λ (s : Option ℕ). s) stored) ∙ ap (filter_map (λ (s : Option ℕ). s)) in_slots.named in
     record {
       fields = fields_kept holds;
       settled = λ x t. none x t;

@@ -75,7 +75,7 @@ slot_stands heap store root place s pointer =
     let after : Store = put_in_slot store root (renamed s.name place) in
     let in_slots = slots-set root place s.slots pointer in
     let others : after ≡ plain_store heap.setup.settings after.next after.kept after.slots =
-        ap (λ (t : Store). put_in_slot t root (renamed s.name place)) s.others in
+    ap (λ (t : Store). put_in_slot t root (renamed s.name place)) s.others in
     record {
       places = s.places;
       name = s.name;
@@ -102,9 +102,11 @@ pub walk-same : (types : Table TypeInfo) (v w : ℕ → ℕ) (from end : ℕ) (p
     → IsWalk types w from places end → IsWalk types v from places end
 walk-same types v w from end [] same walk = walk
 walk-same types v w from end (p ∷ places) same walk =
-    let words : words_at types w p ≡ words_at types v p = sym (ap (λ (l : Layout). l.words) (same p (is_in-head p places)).layout_stays) in
-    (walk.0, subst (λ (n : ℕ). IsWalk types v (from + n) places end) words
-        (walk-same types v w (from + words_at types w p) end places (λ q t. same q (is_in-tail q p places t)) walk.1))
+    let words : words_at types w p ≡ words_at types v p = sym (ap (λ (l : Layout). l.words) (same p (is_in-head p places)).layout_stays) in (
+      walk.0,
+      subst (λ (n : ℕ). IsWalk types v (from + n) places end) words
+          (walk-same types v w (from + words_at types w p) end places (λ q t. same q (is_in-tail q p places t)) walk.1),
+    )
 
 -- objects stand whole where blocks and layouts are the same
 pub whole-same : (old new : Memory) (types : Table TypeInfo) (places : List ℕ) → SameLayouts types (word_at new.blocks) (word_at old.blocks) places
@@ -128,12 +130,12 @@ word_stands heap store s at value birth change there same keeps holds =
     let types = heap.setup.types in
     let words : updated (word_in heap) at value ≡ word_in new = sym (word_at-written heap.memory.blocks at value there) in
     let objects : HoldsObjects types (word_in new) s.places s.places s.name after.kept =
-        subst (λ (w : ℕ → ℕ). HoldsObjects types w s.places s.places s.name after.kept) words holds in
+    subst (λ (w : ℕ → ℕ). HoldsObjects types w s.places s.places s.name after.kept) words holds in
     let layouts : SameLayouts types (word_in new) (word_in heap) s.places =
-        subst (λ (w : ℕ → ℕ). SameLayouts types w (word_in heap) s.places) words same in
+    subst (λ (w : ℕ → ℕ). SameLayouts types w (word_in heap) s.places) words same in
     let lies : (a n : ℕ) → lies_in_one new.memory.blocks a n ≡ lies_in_one heap.memory.blocks a n = λ a n. lies-with_word heap.memory.blocks at value a n in
     let others : after ≡ plain_store heap.setup.settings after.next after.kept after.slots =
-        ap (λ (t : Store). record t { kept = changed_at birth change store.kept }) s.others in
+    ap (λ (t : Store). record t { kept = changed_at birth change store.kept }) s.others in
     let settled : store.settled ≡ [] = ap (λ (t : Store). t.settled) s.others in
     record {
       places = s.places;
@@ -179,11 +181,11 @@ put_stands heap store root item value s full l =
     let here = in_slot heap store root s full in
     let laid = laid_out types word p in
     let changes = changes-updated p (int_place heap root item) value s.objects here.there (omega arith) (omega (arith, l, laid.ordered, laid.pointers))
-        (λ j m e. absurd (omega (arith, e, l, laid.ordered))) in
+    (λ j m e. absurd (omega (arith, e, l, laid.ordered))) in
     subst (λ (b : Option ℕ). PartsStandFor (with_word_at heap (int_place heap root item) value) (record store { kept = changed_at b (with_int item value) store.kept })) (sym here.named)
     (word_stands heap store s (int_place heap root item) value (Some (s.name p)) (with_int item value)
-        (lies-at heap.memory.blocks p (layout_in heap root).words (int_place heap root item) (s.whole p here.there).whole (omega (arith, laid.begins)) (omega (arith, l, laid.ordered, laid.pointers)))
-        (each-keeps s.objects changes) (keeps_int item value) (int_holds p item value s.objects here.there l))
+    (lies-at heap.memory.blocks p (layout_in heap root).words (int_place heap root item) (s.whole p here.there).whole (omega (arith, laid.begins)) (omega (arith, l, laid.ordered, laid.pointers)))
+    (each-keeps s.objects changes) (keeps_int item value) (int_holds p item value s.objects here.there l))
 
 -- A reference of the object in a slot is written.
 pub link_stands : (heap : HeapParts) (store : Store) (root item place : ℕ) (s : PartsStandFor heap store) → place_in heap root ≢ 0
@@ -195,9 +197,9 @@ link_stands heap store root item place s full l pointer =
     let here = in_slot heap store root s full in
     let laid = laid_out types word p in
     let changes = changes-updated p (ref_place heap root item) place s.objects here.there (omega (arith, laid.ordered)) (omega (arith, l, laid.refs, laid.pointers))
-        (λ j m e. pointer) in
+    (λ j m e. pointer) in
     subst (λ (b : Option ℕ). PartsStandFor (with_word_at heap (ref_place heap root item) place)
-        (record store { kept = changed_at b (with_ref item (renamed s.name place)) store.kept })) (sym here.named)
+    (record store { kept = changed_at b (with_ref item (renamed s.name place)) store.kept })) (sym here.named)
     (word_stands heap store s (ref_place heap root item) place (Some (s.name p)) (with_ref item (renamed s.name place))
-        (lies-at heap.memory.blocks p (layout_in heap root).words (ref_place heap root item) (s.whole p here.there).whole (omega (arith, laid.begins, laid.ordered)) (omega (arith, l, laid.refs, laid.pointers)))
-        (each-keeps s.objects changes) (keeps_ref item (renamed s.name place)) (ref_holds p item place s.objects here.there l pointer))
+    (lies-at heap.memory.blocks p (layout_in heap root).words (ref_place heap root item) (s.whole p here.there).whole (omega (arith, laid.begins, laid.ordered)) (omega (arith, l, laid.refs, laid.pointers)))
+    (each-keeps s.objects changes) (keeps_ref item (renamed s.name place)) (ref_holds p item place s.objects here.there l pointer))

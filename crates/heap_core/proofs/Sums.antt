@@ -75,8 +75,8 @@ walk-within types w from end p (q ∷ places) walk t =
     let last = walk-sum types w (from + words_at types w q) end places walk.1 in
     elim (is_in-cases p q places t) [
       | inl e ↦
-        let size : words_at types w p ≡ words_at types w q = ap (words_at types w) e in
-        (omega (arith, e, walk.0), omega (arith, e, walk.0, size, last))
+          let size : words_at types w p ≡ words_at types w q = ap (words_at types w) e in
+          (omega (arith, e, walk.0), omega (arith, e, walk.0, size, last))
       | inr u ↦ let more = walk-within types w (from + words_at types w q) end p places walk.1 u in (omega (arith, more.0), more.1)
     ]
 

@@ -84,20 +84,20 @@ unsettled-none kept = ap kept_words (all-pass kept)
 pub look-told : (heap : HeapParts) (store : Store) → PartsStandFor heap store → look store ≡ told heap
 look-told heap store stands =
     let kinds : (root : ℕ) → kind_in store.slots store.kept root ≡ kind_at heap.setup.types (word_in heap) (place_in heap root) = λ root.
-        ap (λ (ss : List (Option ℕ)). option_map kind_of (option_and_then (object_at store.kept) (held ss root))) stands.slots.named
-        ∙ ap (λ (b : Option ℕ). option_map kind_of (option_and_then (object_at store.kept) b)) (held-named heap.slots stands.name root)
-        ∙ kind-at stands.objects (place_in heap root) (slot-pointer heap.slots stands.places root stands.slots.pointers) in
+    ap (λ (ss : List (Option ℕ)). option_map kind_of (option_and_then (object_at store.kept) (held ss root))) stands.slots.named
+    ∙ ap (λ (b : Option ℕ). option_map kind_of (option_and_then (object_at store.kept) b)) (held-named heap.slots stands.name root)
+    ∙ kind-at stands.objects (place_in heap root) (slot-pointer heap.slots stands.places root stands.slots.pointers) in
     let others = stands.others in
     let pinned : (root : ℕ) → is_held_in (held store.slots root) store.pinned ≡ false = λ root.
-        ap (λ (s : Store). is_held_in (held store.slots root) s.pinned) others ∙ held-in-none (held store.slots root) in
+    ap (λ (s : Store). is_held_in (held store.slots root) s.pinned) others ∙ held-in-none (held store.slots root) in
     let ever : (root : ℕ) → is_held_in (held store.slots root) store.ever ≡ false = λ root.
-        ap (λ (s : Store). is_held_in (held store.slots root) s.ever) others ∙ held-in-none (held store.slots root) in
+    ap (λ (s : Store). is_held_in (held store.slots root) s.ever) others ∙ held-in-none (held store.slots root) in
     let linked : (root : ℕ) → has_p_link store.structs (held store.slots root) ≡ false = λ root.
-        ap (λ (s : Store). has_p_link s.structs (held store.slots root)) others in
+    ap (λ (s : Store). has_p_link s.structs (held store.slots root)) others in
     let structures : (number : ℕ) → state_of (value_at store.structs number) ≡ Absent = λ number.
-        ap (λ (s : Store). state_of (value_at s.structs number)) others in
+    ap (λ (s : Store). state_of (value_at s.structs number)) others in
     let kept : kept_words store.kept ≡ heap.unsettled =
-        sym (unsettled-none store.kept) ∙ (ap (λ (s : Store). unsettled_words store.kept s.settled) (sym others) ∙ sym stands.unsettled) in
+    sym (unsettled-none store.kept) ∙ (ap (λ (s : Store). unsettled_words store.kept s.settled) (sym others) ∙ sym stands.unsettled) in
     let same : look store ≡ told heap = λ i. record {
       kind = λ root. kinds root i;
       is_pinned = λ root. pinned root i;

@@ -40,12 +40,12 @@ impl Model for Parts {
     ghost Value = { HeapParts };
 
     ghost view = { λ p. record {
-        setup = record { settings = p.settings; types = p.types };
-        memory = p.space;
-        free = p.free;
-        slots = p.slots.items;
-        next = p.next;
-        unsettled = p.unsettled;
+      setup = record { settings = p.settings; types = p.types };
+      memory = p.space;
+      free = p.free;
+      slots = p.slots.items;
+      next = p.next;
+      unsettled = p.unsettled;
     } };
 }
 

@@ -73,7 +73,7 @@ stands_set : (session new : SessionSeen) (heap : HeapSeen) (at : Progress) (tabl
 stands_set session new heap at table name value is sets stands =
     let new_is : new.types ≡ Some table = sets.types ∙ is in
     let settings : with_setting at.setup.settings name value ≡ new.settings =
-        ap (λ (s : Setup). with_setting s.settings name value) stands.setup ∙ sym sets.settings in
+    ap (λ (s : Setup). with_setting s.settings name value) stands.setup ∙ sym sets.settings in
     let types : at.setup.types ≡ types_in new.types heap = ap (λ (s : Setup). s.types) stands.setup ∙ ap (λ (t : Option (Table TypeInfo)). types_in t heap) (sym sets.types) in
     let setup : (after_setting at name value).setup ≡ setup_of new heap = λ i. record { settings = settings i; types = types i } in
     record {
@@ -113,7 +113,7 @@ stands_typed session new heap at table id info is adds stands =
     let settings : at.setup.settings ≡ new.settings = ap (λ (s : Setup). s.settings) stands.setup ∙ sym adds.settings in
     let known : at.setup.types ≡ table = ap (λ (s : Setup). s.types) stands.setup ∙ ap (λ (t : Option (Table TypeInfo)). types_in t heap) is in
     let types : with_value at.setup.types id info ≡ types_in new.types heap =
-        ap (λ (t : Table TypeInfo). with_value t id info) known ∙ ap (λ (t : Option (Table TypeInfo)). types_in t heap) (sym new_is) in
+    ap (λ (t : Table TypeInfo). with_value t id info) known ∙ ap (λ (t : Option (Table TypeInfo)). types_in t heap) (sym new_is) in
     let setup : (after_type at id info).setup ≡ setup_of new heap = λ i. record { settings = settings i; types = types i } in
     record {
       has_heap = subst (λ (t : Option (Table TypeInfo)). HasHeap t new.settings heap) (sym new_is)
@@ -168,7 +168,7 @@ begins_first session new heap started types is none settings names becomes empty
 setup_same : (session mid : SessionSeen) (heap started : HeapSeen) (b : Begins session mid heap started) → b.has_heap.parts.setup ≡ setup_of session heap
 setup_same session mid heap started b =
     let types : b.has_heap.parts.setup.types ≡ types_in session.types heap =
-        ap (λ (h : HeapSeen). table_of h.parts) (sym b.has_heap.is) ∙ b.table in
+    ap (λ (h : HeapSeen). table_of h.parts) (sym b.has_heap.is) ∙ b.table in
     let same : b.has_heap.parts.setup ≡ setup_of session heap = λ i. record { settings = b.has_heap.settings_are i; types = types i } in
     same
 
@@ -206,7 +206,7 @@ does_command session mid heap started new at item command before after is accept
     let old = b.has_heap.parts in
     let step = does.does at.store (b.stores at.store stands.store) in
     let taken : Does old.setup at.store command does.lines step.0 =
-        subst (λ (h : HeapSeen). OfParts h.parts (λ parts. Does parts.setup at.store command does.lines step.0)) b.has_heap.is step.1 in
+    subst (λ (h : HeapSeen). OfParts h.parts (λ parts. Does parts.setup at.store command does.lines step.0)) b.has_heap.is step.1 in
     let setup_is : old.setup ≡ at.setup = setup_same session mid heap started b ∙ sym stands.setup in
     let kept : setup_in new ≡ Some old.setup = does.setup ∙ ap setup_in b.has_heap.is in
     let unspent : new.is_spent ≡ false = does.same_spent ∙ ap (λ (h : HeapSeen). h.is_spent) b.has_heap.is in
@@ -217,7 +217,7 @@ does_command session mid heap started new at item command before after is accept
       settings_are = ap (λ (s : Setup). s.settings) parts.2 ∙ (b.has_heap.settings_are ∙ sym b.settings);
     } in
     let types : types_in mid.types new ≡ at.setup.types =
-        ap (λ (t : Option (Table TypeInfo)). types_in t new) b.types ∙ (ap (λ (h : HeapSeen). table_of h.parts) parts.1 ∙ (ap (λ (s : Setup). s.types) parts.2 ∙ ap (λ (s : Setup). s.types) setup_is)) in
+    ap (λ (t : Option (Table TypeInfo)). types_in t new) b.types ∙ (ap (λ (h : HeapSeen). table_of h.parts) parts.1 ∙ (ap (λ (s : Setup). s.types) parts.2 ∙ ap (λ (s : Setup). s.types) setup_is)) in
     let settings : at.setup.settings ≡ mid.settings = ap (λ (s : Setup). s.settings) stands.setup ∙ sym b.settings in
     let setup : at.setup ≡ setup_of mid new = λ i. record { settings = settings i; types = sym types i } in
     record {

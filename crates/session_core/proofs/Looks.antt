@@ -32,7 +32,7 @@ pub look-empty : (settings : Settings) → look (empty_store settings) ≡ nothi
 look-empty settings =
     let none : (root : ℕ) → held (replicate settings.roots None) root ≡ None = λ root. held-none settings.roots root in
     let kinds : (root : ℕ) → kind_in (replicate settings.roots None) [] root ≡ None =
-        λ root. ap (λ (b : Option ℕ). option_map kind_of (option_and_then (object_at []) b)) (none root) in
+    λ root. ap (λ (b : Option ℕ). option_map kind_of (option_and_then (object_at []) b)) (none root) in
     let pins : (root : ℕ) → is_held_in (held (replicate settings.roots None) root) [] ≡ false = λ root. ap (λ (b : Option ℕ). is_held_in b []) (none root) in
     let same : look (empty_store settings) ≡ nothing_told = λ i. record {
       kind = λ root. kinds root i;
@@ -55,7 +55,7 @@ pub told-started : (settings : Settings) (types : Table TypeInfo) → told (star
 told-started settings types =
     let heap : HeapParts = started_parts settings types in
     let kinds : (root : ℕ) → kind_at types (word_in heap) (slice_index_or (replicate settings.roots 0) root 0) ≡ None =
-        λ root. ap (kind_at types (word_in heap)) (place-none settings.roots root) in
+    λ root. ap (kind_at types (word_in heap)) (place-none settings.roots root) in
     let same : told heap ≡ nothing_told = λ i. record nothing_told { kind = λ root. kinds root i } in
     same
 
@@ -72,4 +72,4 @@ refusal_is session heap at item stands =
     ∙ (ap (λ (names : List ℕ). refusal_seen (setup_of session heap) names at.late (look at.store) item) stands.names
     ∙ (ap (λ (late : Bool). refusal_seen (setup_of session heap) session.names late (look at.store) item) stands.late
     ∙ ap (λ (seen : Look). refusal_seen (setup_of session heap) session.names (is_none session.types) seen item)
-        (look-seen session.types session.settings heap at.store stands.has_heap stands.store)))
+    (look-seen session.types session.settings heap at.store stands.has_heap stands.store)))
