@@ -1,0 +1,6 @@
+pub mod Form
+pub mod Conditions
+pub mod Structures
+pub mod Objects
+pub mod Ties
+pub mod Cuts
