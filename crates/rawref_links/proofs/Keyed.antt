@@ -9,10 +9,7 @@ use Rattle.store_model.specs.Store.{Struct}
 use Rattle.store_model.specs.Structs.{with_struct}
 use Rattle.rawref_links.specs.Structures.{slot_at, structs_in, AreKeyed, is_forcing}
 use Rattle.rawref_links.proofs.Tables.{same_table}
-
--- the test of two equal numbers may be turned round
-nat_eq-turned : (m n : ℕ) → nat_eq m n ≡ (n == m)
-nat_eq-turned m n = grind (arith, nat_tests)
+use Rattle.rawref_links.proofs.Tabled.{nat_eq-turned}
 
 -- what stands at each number once something was put at one
 pub value_at-with_struct : (structs : Table Struct) (number : ℕ) (structure : Option Struct) (q : ℕ)

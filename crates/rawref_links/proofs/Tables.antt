@@ -4,7 +4,7 @@ use Rattle.std.specs.List.{All}
 use Rattle.std.proofs.lemmas.Bool.Decides.{nat_tests}
 use Rattle.std.proofs.lemmas.List.Elements.{All-head, All-tail, All-weaker}
 use Rattle.type_table.specs.Table.{Table, KeysRise, value_at, with_value, without_key}
-use Rattle.type_table.proofs.TableLaws.{KeysRise-tail, first_key_below}
+use Rattle.type_table.proofs.TableLaws.{KeysRise-tail, first_key_below, KeysRise-with_value, KeysRise-entries_where, value_at-with_value, value_at-without_key}
 
 module _ {X : Type 0} where
   -- a key below all others is not there
@@ -68,3 +68,17 @@ module _ {X : Type 0} where
       let values : a.1 ≡ b.1 = cc in
       let heads : a ≡ b = λ i. (one_key i, values i) in
       cc
+
+  -- a table with this value at one key, and all else as before, is the one after it was written
+  pub written_table : (new old : Table X) (key : ℕ) (value : X) → KeysRise new → KeysRise old
+      → ((q : ℕ) → value_at new q ≡ cond (q == key) (Some value) (value_at old q)) → new ≡ with_value old key value
+  written_table new old key value rises_new rises_old at =
+      same_table new (with_value old key value) rises_new (KeysRise-with_value old key value rises_old)
+      (λ q. at q ∙ sym (value_at-with_value old key q value))
+
+  -- a table with nothing at one key, and all else as before, is the one after it was taken off
+  pub shortened_table : (new old : Table X) (key : ℕ) → KeysRise new → KeysRise old
+      → ((q : ℕ) → value_at new q ≡ cond (q == key) None (value_at old q)) → new ≡ without_key old key
+  shortened_table new old key rises_new rises_old at =
+      same_table new (without_key old key) rises_new (KeysRise-entries_where _ old rises_old)
+      (λ q. at q ∙ sym (value_at-without_key old key q))
