@@ -1,3 +1,5 @@
 pub mod Tables
 pub mod Keyed
 pub mod Tabled
+pub mod Numbers
+pub mod CutSteps

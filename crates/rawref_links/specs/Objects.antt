@@ -1,5 +1,7 @@
 -- The links of each object, found by its place.
 use Rattle.std.specs.Prelude.{ℕ, Bool, if◌then◌else◌, List, [], ◌∷◌, ◌++◌, Option, Some, None}
+use Rattle.std.specs.List.{list_any}
+use Rattle.store_model.specs.Sets.{is_in}
 use Rattle.type_table.specs.Table.{Table, value_at, with_value, without_key}
 
 -- the structures that are linked with one object: the one with a P link, and all of them, in the order of their links
@@ -36,3 +38,7 @@ tabled (entry ∷ entries) = with_value (tabled entries) entry.0 entry.1
 abbrev pub moved_to : Table LinksOf → ℕ → ℕ → Option LinksOf → Table LinksOf
 moved_to objects from to None = objects
 moved_to objects from to (Some links) = with_value (without_key objects from) to links
+
+-- whether a structure is linked with the object at one of these places
+abbrev pub is_at_one : ℕ → Table LinksOf → List ℕ → Bool
+is_at_one number objects places = list_any (λ place. is_in number (links_at objects place).numbers) places

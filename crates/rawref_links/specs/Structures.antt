@@ -1,7 +1,7 @@
 -- Structures by their numbers, kept in a slab under keys.
-use Rattle.std.specs.Prelude.{◌≡◌, ℕ, Bool, false, nat_eq, List, [], ◌∷◌, Option, Some, None, IsSome, is_some, slice_index_or}
+use Rattle.std.specs.Prelude.{◌≡◌, ℕ, Bool, false, nat_eq, List, [], ◌∷◌, Option, Some, None, IsSome, is_some, slice_index_or, option_and_then}
 use Rattle.std.specs.Map.{lookup}
-use Rattle.type_table.specs.Table.{Table}
+use Rattle.type_table.specs.Table.{Table, value_at}
 use Rattle.store_model.specs.Store.{Struct}
 use Rattle.store_model.specs.Structs.{with_struct, forced_object}
 
@@ -23,3 +23,7 @@ pub record AreKeyed (slots : List (Option Struct)) (entries : List (ℕ × ℕ))
 abbrev pub is_forcing : Option Struct → Bool
 is_forcing None = false
 is_forcing (Some structure) = is_some (forced_object structure)
+
+-- the object that the structure of a number keeps
+abbrev pub forced_at : Table Struct → ℕ → Option ℕ
+forced_at structs number = option_and_then forced_object (value_at structs number)

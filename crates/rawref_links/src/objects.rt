@@ -1,8 +1,9 @@
 //! The links of each object, found by the place at which it lies.
 
-ghost use Rattle.std.specs.Prelude.{◌≡◌, [], ◌++◌, None, Some, IfOk, OnOk, OnErr};
+ghost use Rattle.std.specs.Prelude.{◌≡◌, [], ◌++◌, ℕ, None, Some, IfOk, OnOk, OnErr, if◌then◌else◌};
 ghost use Rattle.type_table.specs.Table.{value_at, with_value, without_key};
-ghost use Rattle.rawref_links.specs.Objects.{no_links, links_at, with_link, moved_to};
+ghost use Rattle.rawref_links.specs.Objects.{no_links, links_at, with_link, moved_to, is_at_one};
+ghost use Rattle.store_model.specs.Sets.{is_in};
 
 use indexmap::IndexMap;
 use std::alloc::{AllocError, Global};
@@ -48,13 +49,6 @@ impl ObjectLinks {
         }
         Ok(())
     }
-
-    /// The numbers of the structures, in the order of their links.
-    pub(crate) fn numbers(&self) -> &[u32]
-        ensures { result.now ≡ self.now.numbers }
-    {
-        self.numbers.as_slice()
-    }
 }
 
 /// The links of each object, by its place. An object without links has no entry.
@@ -99,7 +93,7 @@ impl Objects {
         ensures { result.now ≡ (links_at self.now place).numbers }
     {
         match self.links.get(&place) {
-            Some(links) => links.numbers(),
+            Some(links) => links.numbers.as_slice(),
             None => &[],
         }
     }
@@ -119,12 +113,33 @@ impl Objects {
         Ok(())
     }
 
-    /// Takes the links of the object at the place off the table.
-    pub(crate) fn take(&mut self, place: u64) -> Option<ObjectLinks>
-        ensures links { result ≡ value_at self.old place }
-        ensures taken { self.new ≡ without_key self.old place }
+    /// The structures that are linked with objects at these places, in no order and maybe more than once.
+    pub(crate) fn numbers_of(&self, places: &[u64]) -> Result<Vec<u32>, AllocError>
+        ensures { IfOk result (λ numbers.
+            (number : ℕ) → is_in number numbers.items ≡ is_at_one number self.now places.now) }
     {
-        self.links.swap_remove(&place)
+        let mut numbers = Vec::new(self.alloc);
+        for place in places {
+            numbers.extend_from_slice(self.numbers(*place))?;
+        }
+        Ok(numbers)
+    }
+
+    /// Takes the links of the objects at these places off the table.
+    pub(crate) fn forget(&mut self, places: &[u64])
+        ensures { (place : ℕ) → links_at self.new place
+            ≡ (if is_in place places.now then no_links else links_at self.old place) }
+    {
+        for place in places {
+            self.remove(*place);
+        }
+    }
+
+    // Takes the links of the object at the place off the table.
+    fn remove(&mut self, place: u64)
+        ensures { self.new ≡ without_key self.old place }
+    {
+        self.links.swap_remove(&place);
     }
 
     /// Finds the links of the object at the place `from` at `to` from now on. Without memory nothing changes.

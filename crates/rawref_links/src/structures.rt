@@ -1,10 +1,9 @@
 //! The structures by their numbers. Each stands in a slab, and a hash map leads from its number to its key there.
 
-ghost use Rattle.std.specs.Prelude.{◌≡◌, [], None, IsSome, IfOk, OnOk, OnErr};
+ghost use Rattle.std.specs.Prelude.{◌≡◌, ◌+◌, ◌≤◌, ◌++◌, [], ℕ, None, IsSome, IfOk, OnOk, OnErr, length, filter_map, vec_len, vec_capacity};
 ghost use Rattle.type_table.specs.Table.{value_at, with_value, without_key};
 ghost use Rattle.store_model.specs.Sets.{is_in};
-ghost use Rattle.rawref_links.specs.Structures.{is_forcing};
-ghost use Rattle.std.specs.Prelude.{ℕ};
+ghost use Rattle.rawref_links.specs.Structures.{is_forcing, forced_at};
 
 use crate::structure::Structure;
 use indexmap::IndexMap;
@@ -99,5 +98,27 @@ impl Structures {
             }
         }
         Ok(numbers)
+    }
+
+    /// Appends the objects that these structures keep, in this order. There is room for all of them.
+    pub(crate) fn append_forced(&self, numbers: &[u32], places: &mut Vec<u64>)
+        requires { vec_len places.old + length numbers.now ≤ vec_capacity places.old }
+        ensures { places.new.items ≡ places.old.items ++ filter_map (forced_at self.now) numbers.now }
+    {
+        for number in numbers {
+            if let Some(object) = self.forced(*number) {
+                places.push_reserved(object);
+            }
+        }
+    }
+
+    // The object that the structure of the number keeps.
+    fn forced(&self, number: u32) -> Option<u64>
+        ensures { result ≡ forced_at self.now number }
+    {
+        match self.get(number) {
+            Some(structure) => structure.forced_object(),
+            None => None,
+        }
     }
 }

@@ -4,8 +4,8 @@ use Rattle.rawref_links.proofs.objects.Objects.numbers.Goals as goal
 
 pub returns-in-Some : goal.returns-in-Some
 returns-in-Some c =
-    c.numbers.ensures
-    ∙ ap (λ l. l.numbers) (links_at-map c.self.inside.links.entries c.args.self.now c.self.view_is c.args.place (Some c.in-Some.links.now) (sym c.in-Some.ensures.value))
+    c.as_slice.ensures.value ∙ ap (λ l. l.numbers) (c.links.view_is
+    ∙ links_at-map c.self.inside.links.entries c.args.self.now c.self.view_is c.args.place (Some c.in-Some.links.now) (sym c.in-Some.ensures.value))
 
 pub returns-in-None : goal.returns-in-None
 returns-in-None c =
