@@ -3,3 +3,4 @@ pub mod Keyed
 pub mod Tabled
 pub mod Numbers
 pub mod CutSteps
+pub mod TieLaws

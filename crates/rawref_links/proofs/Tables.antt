@@ -1,6 +1,7 @@
 -- Two tables whose keys rise are the same if they have the same at each key.
 use Rattle.std.proofs.Common.{◌≡◌, ℕ, suc, ◌<◌, ◌≤◌, Bool, true, false, cond, ◌==◌, List, [], ◌∷◌, length, Option, Some, None, sym, refl, ap, ◌∙◌, arith, inl, inr, ⊎_elim}
 use Rattle.std.specs.List.{All}
+use Rattle.std.proofs.lemmas.Bool.{eqb-true}
 use Rattle.std.proofs.lemmas.Bool.Decides.{nat_tests}
 use Rattle.std.proofs.lemmas.List.Elements.{All-head, All-tail, All-weaker}
 use Rattle.type_table.specs.Table.{Table, KeysRise, value_at, with_value, without_key}
@@ -82,3 +83,15 @@ module _ {X : Type 0} where
   shortened_table new old key rises_new rises_old at =
       same_table new (without_key old key) rises_new (KeysRise-entries_where _ old rises_old)
       (λ q. at q ∙ sym (value_at-without_key old key q))
+
+  -- what was written under a new key and taken off again leaves the table as it was
+  pub without_key-with_value : (table : Table X) (key : ℕ) (value : X) → KeysRise table → value_at table key ≡ None
+      → without_key (with_value table key value) key ≡ table
+  without_key-with_value table key value rises absent =
+      same_table (without_key (with_value table key value) key) table
+      (KeysRise-entries_where _ (with_value table key value) (KeysRise-with_value table key value rises)) rises
+      (λ q. value_at-without_key (with_value table key value) key q ∙ ap (cond (q == key) None) (value_at-with_value table key q value)
+      ∙ elim (q == key) as (λ t. (q == key) ≡ t → cond t None (cond t (Some value) (value_at table q)) ≡ value_at table q) [
+        | true ↦ λ same. sym (ap (value_at table) (eqb-true q key same) ∙ absent)
+        | false ↦ λ differ. refl
+      ] refl)

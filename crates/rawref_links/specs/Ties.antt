@@ -1,6 +1,5 @@
 -- What ties the structures, the links of each object and the dead queue.
-use Rattle.std.specs.Prelude.{◌≡◌, ℕ, Bool, false, ◌==◌, nat_eq, IsTrue, List, Option, Some, None}
-use Rattle.std.specs.List.{IsDistinct}
+use Rattle.std.specs.Prelude.{◌≡◌, ℕ, Bool, false, ◌==◌, IsTrue, List, [], ◌∷◌, Option, Some, None}
 use Rattle.type_table.specs.Table.{Table, KeysRise, value_at}
 use Rattle.store_model.specs.Sets.{is_in}
 use Rattle.store_model.specs.Store.{Struct}
@@ -23,11 +22,16 @@ abbrev pub is_number : ℕ → Option ℕ → Bool
 is_number number None = false
 is_number number (Some found) = found == number
 
+-- no number stands twice
+abbrev pub AreDifferent : List ℕ → Type 0
+AreDifferent [] = Unit {0}
+AreDifferent (number ∷ numbers) = (is_in number numbers ≡ false) × AreDifferent numbers
+
 -- the structures stand by rising number, and the dead queue has just the pending ones, each once
 pub record AreQueued (structs : Table Struct) (dead : List ℕ) : Type 0 where
   pub rises : KeysRise structs
   pub waiting : (number : ℕ) → is_in number dead ≡ is_pending (value_at structs number)
-  pub once : IsDistinct nat_eq dead
+  pub once : AreDifferent dead
 
 -- and the links of each object are found at its place
 pub record AreTied (structs : Table Struct) (objects : Table LinksOf) (dead : List ℕ) : Type 0 where
