@@ -4,3 +4,5 @@ pub mod Tabled
 pub mod Numbers
 pub mod CutSteps
 pub mod TieLaws
+pub mod Picked
+pub mod LinkLaws
