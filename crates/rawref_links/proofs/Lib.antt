@@ -6,3 +6,5 @@ pub mod CutSteps
 pub mod TieLaws
 pub mod Picked
 pub mod LinkLaws
+pub mod MoveTies
+pub mod CutTies
