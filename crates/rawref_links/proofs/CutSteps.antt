@@ -81,12 +81,12 @@ module _ (old structs : Table Struct) (numbers : List ℕ) (i : ℕ) (within : i
   MovesAt-more to so_far = record {
     rises = KeysRise-with_moved structs (get_or numbers i 0) to (value_at structs (get_or numbers i 0)) so_far.rises;
     at = λ q.
-      value_at-with_moved structs (get_or numbers i 0) to (value_at structs (get_or numbers i 0)) refl q
-      ∙ changed_more (option_map (with_object (λ _. to))) (is_in q (take i numbers)) (get_or numbers i 0 == q) (q == get_or numbers i 0)
+        value_at-with_moved structs (get_or numbers i 0) to (value_at structs (get_or numbers i 0)) refl q
+        ∙ changed_more (option_map (with_object (λ _. to))) (is_in q (take i numbers)) (get_or numbers i 0 == q) (q == get_or numbers i 0)
         (value_at structs (get_or numbers i 0)) (value_at structs q) (value_at old q) (nat_eq-turned (get_or numbers i 0) q)
         (λ same. ap (value_at structs) (sym (eqb-true q (get_or numbers i 0) same))) (so_far.at q)
         (λ before here. moved_twice to (value_at old q))
-      ∙ ap (λ t. cond t (option_map (with_object (λ _. to)) (value_at old q)) (value_at old q)) (sym (is_in-more q numbers i within));
+        ∙ ap (λ t. cond t (option_map (with_object (λ _. to)) (value_at old q)) (value_at old q)) (sym (is_in-more q numbers i within));
   }
 
   module _ (rising : IsStrictlyIncreasing numbers) (so_far : CutsAt old structs (take i numbers)) where
@@ -100,15 +100,15 @@ module _ (old structs : Table Struct) (numbers : List ℕ) (i : ℕ) (within : i
     CutsAt-more = record {
       rises = KeysRise-with_struct structs (get_or numbers i 0) (left_of (value_at structs (get_or numbers i 0))) so_far.rises;
       at = λ q.
-        value_at-with_struct structs (get_or numbers i 0) (left_of (value_at structs (get_or numbers i 0))) q
-        ∙ changed_more left_of (is_in q (take i numbers)) (get_or numbers i 0 == q) (q == get_or numbers i 0)
+          value_at-with_struct structs (get_or numbers i 0) (left_of (value_at structs (get_or numbers i 0))) q
+          ∙ changed_more left_of (is_in q (take i numbers)) (get_or numbers i 0 == q) (q == get_or numbers i 0)
           (value_at structs (get_or numbers i 0)) (value_at structs q) (value_at old q) (nat_eq-turned (get_or numbers i 0) q)
           (λ same. ap (value_at structs) (sym (eqb-true q (get_or numbers i 0) same))) (so_far.at q)
           (λ before here.
-            let not_before : is_in q (take i numbers) ≡ false = ap (λ n. is_in n (take i numbers)) (eqb-true q (get_or numbers i 0) here) ∙ is_in-before numbers i rising within in
-            let clash : true ≡ false = sym before ∙ not_before in
-            cc)
-        ∙ ap (λ t. cond t (left_of (value_at old q)) (value_at old q)) (sym (is_in-more q numbers i within));
+          let not_before : is_in q (take i numbers) ≡ false = ap (λ n. is_in n (take i numbers)) (eqb-true q (get_or numbers i 0) here) ∙ is_in-before numbers i rising within in
+          let clash : true ≡ false = sym before ∙ not_before in
+          cc)
+          ∙ ap (λ t. cond t (left_of (value_at old q)) (value_at old q)) (sym (is_in-more q numbers i within));
     }
 
     pub ends_of-more : ends_of old (take (i + 1) numbers)
@@ -117,7 +117,7 @@ module _ (old structs : Table Struct) (numbers : List ℕ) (i : ℕ) (within : i
         ap (ends_of old) (take_more numbers i 0 within)
         ∙ filter_map-append (λ number. end_of number (value_at old number)) (take i numbers) (get_or numbers i 0 ∷ [])
         ∙ ap (λ ends. ends_of old (take i numbers) ++ ends) (filter_map-one (λ number. end_of number (value_at old number)) (get_or numbers i 0)
-          ∙ ap (λ found. option_to_list (end_of (get_or numbers i 0) found)) (sym value_at-next))
+        ∙ ap (λ found. option_to_list (end_of (get_or numbers i 0) found)) (sym value_at-next))
 
     pub newly_dead-more : newly_dead (ends_of old (take (i + 1) numbers))
         ≡ newly_dead (ends_of old (take i numbers)) ++ newly_dead (option_to_list (end_of (get_or numbers i 0) (value_at structs (get_or numbers i 0))))

@@ -16,7 +16,8 @@ use Rattle.store_model.specs.StructChecks.{is_pending}
 use Rattle.store_model.specs.Links.{fate_of, left_by, link_end, link_ends, struct_after, entry_after, is_queued_by, newly_dead}
 use Rattle.rawref_links.specs.Objects.{LinksOf, no_links, links_at, is_at_one}
 use Rattle.rawref_links.specs.Cuts.{end_of, left_of, ends_of, CutsAt, AreListed}
-use Rattle.rawref_links.specs.Ties.{is_linked_to, is_p_linked_to, is_number, AreDifferent, AreQueued, AreTied}
+use Rattle.rawref_links.specs.Sound.{is_p_linked_to, AreDifferent, AreQueued}
+use Rattle.rawref_links.specs.Ties.{is_linked_to, is_number, AreTied}
 use Rattle.rawref_links.proofs.Tables.{same_table, value_at-below, value_at-behind_first}
 use Rattle.rawref_links.proofs.Picked.{Rises, Rises-increasing, AreDifferent-rising, found_by, picked, filter_map-same}
 
@@ -84,7 +85,7 @@ module _ (gone : ℕ → Bool) where
   value_at-after (entry ∷ structs) q rises =
       let rest = value_at-after structs q (KeysRise-tail entry structs rises) in
       elim (q == entry.0) as (λ t. (q == entry.0) ≡ t → value_at (cons_option (option_map (λ s. (entry.0, s)) (struct_after gone entry.1)) (filter_map (entry_after gone) structs)) q
-        ≡ after_of gone (cond t (Some entry.1) (value_at structs q))) [
+      ≡ after_of gone (cond t (Some entry.1) (value_at structs q))) [
         | true ↦ λ same. elim (struct_after gone entry.1) as (λ r. value_at (cons_option (option_map (λ s. (entry.0, s)) r) (filter_map (entry_after gone) structs)) q ≡ r) [
           | None ↦ rest ∙ ap (after_of gone) (ap (value_at structs) (eqb-true q entry.0 same) ∙ value_at-behind_first entry structs rises)
           | Some structure ↦ ap (λ t. cond t (Some structure) (value_at (filter_map (entry_after gone) structs) q)) same
@@ -244,9 +245,10 @@ AreDifferent-filter test (number ∷ numbers) different =
 
 AreDifferent-append : (xs ys : List ℕ) → AreDifferent xs → AreDifferent ys → ((n : ℕ) → is_in n xs ≡ true → is_in n ys ≡ false) → AreDifferent (xs ++ ys)
 AreDifferent-append [] ys first second apart = second
-AreDifferent-append (x ∷ xs) ys first second apart =
-    (list_any-append (λ y. y == x) xs ys ∙ ap (λ t. t || is_in x ys) first.0 ∙ apart x (ap (λ t. t || is_in x xs) (eq-eqb x x refl)),
-    AreDifferent-append xs ys first.1 second (λ n there. apart n (ap (λ t. (x == n) || t) there ∙ or_true (x == n))))
+AreDifferent-append (x ∷ xs) ys first second apart = (
+  list_any-append (λ y. y == x) xs ys ∙ ap (λ t. t || is_in x ys) first.0 ∙ apart x (ap (λ t. t || is_in x xs) (eq-eqb x x refl)),
+  AreDifferent-append xs ys first.1 second (λ n there. apart n (ap (λ t. (x == n) || t) there ∙ or_true (x == n))),
+)
 
 waits_apart : (found : Option Struct) → is_pending found ≡ true → waits found ≡ false
 waits_apart None none = refl
@@ -265,8 +267,8 @@ module _ (structs seen : Table Struct) (objects : Table LinksOf) (dead numbers p
     sound = tied.queued.rises;
     rising = rising;
     there = λ k d within.
-      gone_there (λ object. is_in object places) (value_at structs (get_or numbers k d))
-      (sym (listed_gone (get_or numbers k d)) ∙ list_any_at (λ y. y == get_or numbers k d) numbers k d within (eq-eqb (get_or numbers k d) (get_or numbers k d) refl));
+        gone_there (λ object. is_in object places) (value_at structs (get_or numbers k d))
+        (sym (listed_gone (get_or numbers k d)) ∙ list_any_at (λ y. y == get_or numbers k d) numbers k d within (eq-eqb (get_or numbers k d) (get_or numbers k d) refl));
   }
 
   pub ends-told : ends_of structs numbers ≡ link_ends (λ object. is_in object places) seen
@@ -274,7 +276,7 @@ module _ (structs seen : Table Struct) (objects : Table LinksOf) (dead numbers p
       filter_map-same (λ n. end_of n (value_at structs n)) (λ n. found_by (ending (λ object. is_in object places)) n (value_at structs n)) numbers
       (λ n there. end_of-gone (λ object. is_in object places) n (value_at structs n) (sym (listed_gone n) ∙ there))
       ∙ picked (ending (λ object. is_in object places)) structs numbers tied.queued.rises (Rises-increasing numbers rising)
-        (λ n. listed_gone n ∙ is_gone-ending (λ object. is_in object places) n (value_at structs n))
+      (λ n. listed_gone n ∙ is_gone-ending (λ object. is_in object places) n (value_at structs n))
       ∙ ap (link_ends (λ object. is_in object places)) same
 
   module _ (after : Table Struct) (cuts : CutsAt structs after numbers) where
@@ -302,26 +304,26 @@ module _ (structs seen : Table Struct) (objects : Table LinksOf) (dead numbers p
       queued = record {
         rises = cuts.rises;
         waiting = λ n.
-          ap (is_in n) queued ∙ list_any-append (λ y. y == n) dead (newly_dead (ends_of structs numbers))
-          ∙ ap (λ t. t || is_in n (newly_dead (ends_of structs numbers))) (tied.queued.waiting n)
-          ∙ ap (λ t. is_pending (value_at structs n) || t) (is_newly_dead n)
-          ∙ pending_after (λ object. is_in object places) (value_at structs n) ∙ sym (ap is_pending (value_at-cut n));
+            ap (is_in n) queued ∙ list_any-append (λ y. y == n) dead (newly_dead (ends_of structs numbers))
+            ∙ ap (λ t. t || is_in n (newly_dead (ends_of structs numbers))) (tied.queued.waiting n)
+            ∙ ap (λ t. is_pending (value_at structs n) || t) (is_newly_dead n)
+            ∙ pending_after (λ object. is_in object places) (value_at structs n) ∙ sym (ap is_pending (value_at-cut n));
         once = subst AreDifferent (sym queued)
-          (AreDifferent-append dead (newly_dead (ends_of structs numbers)) tied.queued.once
-          (subst AreDifferent (sym (newly_dead-ends structs numbers))
+            (AreDifferent-append dead (newly_dead (ends_of structs numbers)) tied.queued.once
+            (subst AreDifferent (sym (newly_dead-ends structs numbers))
             (AreDifferent-filter (λ n. waits (value_at structs n)) numbers (AreDifferent-rising numbers (Rises-increasing numbers rising))))
-          (λ n there. is_newly_dead n
+            (λ n there. is_newly_dead n
             ∙ ap (λ t. is_gone (λ object. is_in object places) (value_at structs n) && t) (waits_apart (value_at structs n) (sym (tied.queued.waiting n) ∙ there))
             ∙ and_false (is_gone (λ object. is_in object places) (value_at structs n))));
       };
       linked = λ n place.
-        ap (λ l. is_in n l.numbers) (forgotten place) ∙ forgot (λ l. is_in n l.numbers) place refl
-        ∙ ap (λ t. cond (is_in place places) false t) (tied.linked n place)
-        ∙ linked_after (λ object. is_in object places) place (value_at structs n) ∙ sym (ap (is_linked_to place) (value_at-cut n));
+          ap (λ l. is_in n l.numbers) (forgotten place) ∙ forgot (λ l. is_in n l.numbers) place refl
+          ∙ ap (λ t. cond (is_in place places) false t) (tied.linked n place)
+          ∙ linked_after (λ object. is_in object places) place (value_at structs n) ∙ sym (ap (is_linked_to place) (value_at-cut n));
       p_linked = λ n place.
-        ap (λ l. is_number n l.p_link) (forgotten place) ∙ forgot (λ l. is_number n l.p_link) place refl
-        ∙ ap (λ t. cond (is_in place places) false t) (tied.p_linked n place)
-        ∙ p_linked_after (λ object. is_in object places) place (value_at structs n) ∙ sym (ap (is_p_linked_to place) (value_at-cut n));
+          ap (λ l. is_number n l.p_link) (forgotten place) ∙ forgot (λ l. is_number n l.p_link) place refl
+          ∙ ap (λ t. cond (is_in place places) false t) (tied.p_linked n place)
+          ∙ p_linked_after (λ object. is_in object places) place (value_at structs n) ∙ sym (ap (is_p_linked_to place) (value_at-cut n));
     }
       where
         forgot : (test : LinksOf → Bool) (place : ℕ) → test no_links ≡ false

@@ -40,7 +40,7 @@ value_at-structs_in slots [] q = refl
 value_at-structs_in slots (entry ∷ entries) q =
     value_at-with_struct (structs_in slots entries) entry.0 (slot_at slots entry.1) q
     ∙ elim (q == entry.0) as (λ t. cond t (slot_at slots entry.1) (value_at (structs_in slots entries) q)
-      ≡ at_key slots (cond t (Some entry.1) (lookup (nat_eq q) entries))) [
+    ≡ at_key slots (cond t (Some entry.1) (lookup (nat_eq q) entries))) [
       | true ↦ refl
       | false ↦ value_at-structs_in slots entries q
     ]
@@ -69,14 +69,14 @@ module _ (slots now : List (Option Struct)) (entries after : List (ℕ × ℕ)) 
     value_at-set found q =
         elim (q == number) as (λ t. (q == number) ≡ t → at_key now (lookup (nat_eq q) entries) ≡ cond t (Some structure) (at_key slots (lookup (nat_eq q) entries))) [
           | true ↦ λ same. let is_number : q ≡ number = grind (arith, nat_tests) in
-            ap (λ n. at_key now (lookup (nat_eq n) entries)) is_number ∙ ap (at_key now) found ∙ puts.here
+              ap (λ n. at_key now (lookup (nat_eq n) entries)) is_number ∙ ap (at_key now) found ∙ puts.here
           | false ↦ λ differ.
-            elim (lookup (nat_eq q) entries) as (λ r. lookup (nat_eq q) entries ≡ r → at_key now r ≡ at_key slots r) [
-              | None ↦ λ absent. refl
-              | Some other ↦ λ there. puts.elsewhere other (λ same_key.
-                let one : q ≡ number = keyed.apart q number key (there ∙ ap Some same_key) found in
-                grind (arith, nat_tests))
-            ] refl
+              elim (lookup (nat_eq q) entries) as (λ r. lookup (nat_eq q) entries ≡ r → at_key now r ≡ at_key slots r) [
+                | None ↦ λ absent. refl
+                | Some other ↦ λ there. puts.elsewhere other (λ same_key.
+                    let one : q ≡ number = keyed.apart q number key (there ∙ ap Some same_key) found in
+                    grind (arith, nat_tests))
+              ] refl
         ] refl
 
     pub structs_in-set : lookup (nat_eq number) entries ≡ Some key → structs_in now entries ≡ with_value (structs_in slots entries) number structure
@@ -217,8 +217,8 @@ pub forcing_listed : (slots : List (Option Struct)) (entries : List (ℕ × ℕ)
 forcing_listed slots entries seen view number =
     let at : at_key slots (lookup (nat_eq number) entries) ≡ value_at seen number = value_at-seen slots entries seen view number _ refl in
     elim (lookup (nat_eq number) entries) as (λ r. lookup (nat_eq number) entries ≡ r → at_key slots r ≡ value_at seen number
-      → (is_forcing (value_at seen number) && is_in number (keys_of entries)) ≡ is_forcing (value_at seen number)) [
+    → (is_forcing (value_at seen number) && is_in number (keys_of entries)) ≡ is_forcing (value_at seen number)) [
       | None ↦ λ absent none. grind (arith, ap is_forcing none)
       | Some key ↦ λ there some. let is_listed : is_in number (keys_of entries) ≡ true = listed entries number ∙ ap is_some there in
-        rw is_listed (and_true (is_forcing (value_at seen number)))
+          rw is_listed (and_true (is_forcing (value_at seen number)))
     ] refl at

@@ -8,3 +8,4 @@ pub mod Picked
 pub mod LinkLaws
 pub mod MoveTies
 pub mod CutTies
+pub mod Refusals

@@ -15,7 +15,8 @@ use Rattle.store_model.specs.StructChecks.{is_pending}
 use Rattle.rawref_links.specs.Conditions.{HasNoLink}
 use Rattle.rawref_links.specs.Cuts.{MovesAt}
 use Rattle.rawref_links.specs.Objects.{LinksOf, no_links, links_or_none, links_at, moved_to}
-use Rattle.rawref_links.specs.Ties.{is_linked_to, is_p_linked_to, is_number, AreQueued, AreTied}
+use Rattle.rawref_links.specs.Sound.{is_p_linked_to, AreQueued}
+use Rattle.rawref_links.specs.Ties.{is_linked_to, is_number, AreTied}
 use Rattle.rawref_links.proofs.Tables.{same_table}
 use Rattle.rawref_links.proofs.TieLaws.{links_at-with_value}
 
@@ -63,10 +64,10 @@ module _ (test : LinksOf → Bool) (none : test no_links ≡ false) (objects : T
   moved_found (Some links) there place =
       ap test (links_at-with_value (without_key objects from) to links place)
       ∙ elim (place == to) as (λ t. test (cond t links (links_at (without_key objects from) place))
-        ≡ cond t (test (links_at objects from)) (cond (place == from) false (test (links_at objects place)))) [
+      ≡ cond t (test (links_at objects from)) (cond (place == from) false (test (links_at objects place)))) [
         | true ↦ sym (ap (λ o. test (links_or_none o)) there)
         | false ↦ ap test (links_at-without_key objects from place)
-          ∙ elim (place == from) as (λ t. test (cond t no_links (links_at objects place)) ≡ cond t false (test (links_at objects place))) [ true ↦ none | false ↦ refl ]
+            ∙ elim (place == from) as (λ t. test (cond t no_links (links_at objects place)) ≡ cond t false (test (links_at objects place))) [ true ↦ none | false ↦ refl ]
       ]
 
 -- one place is the new name of another just where that is the old place and this the new one, or where both are the same
@@ -151,8 +152,8 @@ module _ (structs after : Table Struct) (objects : Table LinksOf) (dead : List �
     value_at-moved q =
         moves.at q
         ∙ ap (λ t. cond t (option_map (with_object (λ _. to)) (value_at structs q)) (value_at structs q))
-          (linked_after q to ∙ linked_moved from to (value_at structs q) (no_link structs to free q) to
-          ∙ ap (λ t. cond t (is_linked_to from (value_at structs q)) (cond (to == from) false (is_linked_to to (value_at structs q)))) (eq-eqb to to refl))
+        (linked_after q to ∙ linked_moved from to (value_at structs q) (no_link structs to free q) to
+        ∙ ap (λ t. cond t (is_linked_to from (value_at structs q)) (cond (to == from) false (is_linked_to to (value_at structs q)))) (eq-eqb to to refl))
         ∙ value_moved from to (value_at structs q)
 
     after-moved : after ≡ with_objects (renamed from to) structs

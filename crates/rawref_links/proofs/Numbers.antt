@@ -50,7 +50,7 @@ pub is_in-before : (xs : List ℕ) (i : ℕ) → IsStrictlyIncreasing xs → i <
 is_in-before xs i rising within =
     list_any_none (λ y. y == get_or xs i 0) (take i xs)
     (λ k d inside. let below : k < i = omega (arith, length-take i xs) in
-      let same : get_or (take i xs) k d ≡ get_or xs k d = get_or-take i xs k d below in
-      let same_d : get_or xs k d ≡ get_or xs k 0 = get_or_default xs k d 0 (omega arith) in
-      let lower : get_or xs k 0 < get_or xs i 0 = below_from_sorted xs k i 0 (sorted_from_strictly_increasing xs rising) below within in
-      rw (same, same_d) (grind (arith, nat_tests)))
+    let same : get_or (take i xs) k d ≡ get_or xs k d = get_or-take i xs k d below in
+    let same_d : get_or xs k d ≡ get_or xs k 0 = get_or_default xs k d 0 (omega arith) in
+    let lower : get_or xs k 0 < get_or xs i 0 = below_from_sorted xs k i 0 (sorted_from_strictly_increasing xs rising) below within in
+    rw (same, same_d) (grind (arith, nat_tests)))

@@ -9,7 +9,7 @@ use Rattle.std.proofs.lemmas.Map.Keys.{below_from_sorted, sorted_tail, sorted_fr
 use Rattle.type_table.specs.Table.{Table, KeysRise, value_at}
 use Rattle.type_table.proofs.TableLaws.{KeysRise-tail}
 use Rattle.store_model.specs.Sets.{is_in}
-use Rattle.rawref_links.specs.Ties.{AreDifferent}
+use Rattle.rawref_links.specs.Sound.{AreDifferent}
 use Rattle.rawref_links.proofs.Tables.{value_at-first, value_at-behind_first, value_at-lower}
 use Rattle.rawref_links.proofs.Numbers.{Contains-from_is_in}
 
@@ -24,11 +24,12 @@ or_true false = refl
 
 Rises-sorted : (numbers : List ℕ) → IsStrictlySortedBy nat_cmp numbers → Rises numbers
 Rises-sorted [] sorted = tt
-Rises-sorted (number ∷ numbers) sorted =
-    (λ q there. let at : Contains numbers q = Contains-from_is_in q numbers there in
+Rises-sorted (number ∷ numbers) sorted = (
+  λ q there. let at : Contains numbers q = Contains-from_is_in q numbers there in
       let lower : number < get_or numbers at.0 q = below_from_sorted (number ∷ numbers) 0 (suc at.0) q sorted (omega arith) (omega (arith, at.1)) in
       rw at.2 at lower,
-    Rises-sorted numbers (sorted_tail nat_cmp number numbers sorted))
+  Rises-sorted numbers (sorted_tail nat_cmp number numbers sorted),
+)
 
 pub Rises-increasing : (numbers : List ℕ) → IsStrictlyIncreasing numbers → Rises numbers
 Rises-increasing numbers rising = Rises-sorted numbers (sorted_from_strictly_increasing numbers rising)
@@ -64,10 +65,10 @@ module _ {X Y : Type 0} (g : ℕ → X → Option Y) where
       → found_by n (value_at (entry ∷ table) n) ≡ found_by n (value_at table n)
   skipped entry table rises none n = elim (n == entry.0) as (λ t. (n == entry.0) ≡ t
       → found_by n (cond t (Some entry.1) (value_at table n)) ≡ found_by n (value_at table n)) [
-    | true ↦ λ is_entry. ap (λ m. g m entry.1) (eqb-true n entry.0 is_entry) ∙ none
-      ∙ sym (ap (found_by n) (ap (value_at table) (eqb-true n entry.0 is_entry) ∙ value_at-behind_first entry table rises))
-    | false ↦ λ differ. refl
-  ] refl
+        | true ↦ λ is_entry. ap (λ m. g m entry.1) (eqb-true n entry.0 is_entry) ∙ none
+            ∙ sym (ap (found_by n) (ap (value_at table) (eqb-true n entry.0 is_entry) ∙ value_at-behind_first entry table rises))
+        | false ↦ λ differ. refl
+      ] refl
 
   pub picked : (table : Table X) (numbers : List ℕ) → KeysRise table → Rises numbers
       → ((n : ℕ) → is_in n numbers ≡ is_some (found_by n (value_at table n)))
@@ -78,7 +79,7 @@ module _ {X Y : Type 0} (g : ℕ → X → Option Y) where
       absurd (cc)
   picked (entry ∷ table) numbers rises rising listed =
       elim (g entry.0 entry.1) as (λ r. g entry.0 entry.1 ≡ r → filter_map (λ n. found_by n (value_at (entry ∷ table) n)) numbers
-        ≡ cons_option r (filter_map (λ e. g e.0 e.1) table)) [
+      ≡ cons_option r (filter_map (λ e. g e.0 e.1) table)) [
         | None ↦ λ none.
             (λ i. filter_map (λ n. skipped entry table rises none n i) numbers)
             ∙ picked table numbers (KeysRise-tail entry table rises) rising (λ n. listed n ∙ ap is_some (skipped entry table rises none n))
@@ -89,7 +90,7 @@ module _ {X Y : Type 0} (g : ℕ → X → Option Y) where
       chosen : (numbers : List ℕ) → Rises numbers → ((n : ℕ) → is_in n numbers ≡ is_some (found_by n (value_at (entry ∷ table) n)))
           → (y : Y) → g entry.0 entry.1 ≡ Some y
           → ((others : List ℕ) → Rises others → ((n : ℕ) → is_in n others ≡ is_some (found_by n (value_at table n)))
-            → filter_map (λ n. found_by n (value_at table n)) others ≡ filter_map (λ e. g e.0 e.1) table)
+          → filter_map (λ n. found_by n (value_at table n)) others ≡ filter_map (λ e. g e.0 e.1) table)
           → filter_map (λ n. found_by n (value_at (entry ∷ table) n)) numbers ≡ y ∷ filter_map (λ e. g e.0 e.1) table
       chosen [] rising listed y some walk =
           let clash : false ≡ true = listed entry.0 ∙ ap (λ o. is_some (found_by entry.0 o)) (value_at-first entry table) ∙ ap is_some some in
@@ -116,12 +117,14 @@ module _ {X Y : Type 0} (g : ℕ → X → Option Y) where
               let none : value_at (entry ∷ table) m ≡ None = value_at-lower entry table m rises (rising.0 entry.0 in_rest) in
               let clash : true ≡ false = sym (ap (λ t. t || is_in m ms) (eq-eqb m m refl)) ∙ listed m ∙ ap (λ o. is_some (found_by m o)) none in
               absurd (cc)
+
           -- behind the first entry stands what the rest has
           behind : (n : ℕ) → (n ≡ entry.0 → ⊥) → found_by n (value_at (entry ∷ table) n) ≡ found_by n (value_at table n)
           behind n differ = elim (n == entry.0) as (λ t. (n == entry.0) ≡ t → found_by n (cond t (Some entry.1) (value_at table n)) ≡ found_by n (value_at table n)) [
             | true ↦ λ same. absurd (differ (eqb-true n entry.0 same))
             | false ↦ λ other. refl
           ] refl
+
           left : m ≡ entry.0 → is_in entry.0 ms ≡ false → (n : ℕ) (b : Bool) → (n == entry.0) ≡ b → is_in n ms ≡ is_some (found_by n (value_at table n))
           left first alone n true same =
               let is_entry : n ≡ entry.0 = eqb-true n entry.0 same in

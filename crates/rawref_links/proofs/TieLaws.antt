@@ -12,7 +12,8 @@ use Rattle.store_model.specs.Structs.{with_struct, p_link_of, is_link_of, raised
 use Rattle.store_model.specs.StructChecks.{is_p_link_of, is_pending}
 use Rattle.rawref_links.specs.Conditions.{CanRise, CanFall}
 use Rattle.rawref_links.specs.Objects.{LinksOf, links_or_none, links_at, with_link}
-use Rattle.rawref_links.specs.Ties.{is_linked_to, is_p_linked_to, is_number, AreDifferent, AreQueued, AreTied}
+use Rattle.rawref_links.specs.Sound.{is_p_linked_to, AreDifferent, AreQueued}
+use Rattle.rawref_links.specs.Ties.{is_linked_to, is_number, AreTied}
 use Rattle.rawref_links.proofs.Tables.{value_at-first, value_at-behind_first, without_key-with_value}
 use Rattle.rawref_links.proofs.Tabled.{nat_eq-turned}
 use Rattle.rawref_links.proofs.Keyed.{value_at-with_struct, KeysRise-with_struct}
@@ -75,7 +76,7 @@ p_link_of-unique [] place (Some found) rises same =
     absurd (grind (arith, nat_tests))
 p_link_of-unique (entry ∷ structs) place p_link rises same =
     elim (is_p_link_of (Some place) entry.1) as (λ t. is_p_link_of (Some place) entry.1 ≡ t
-      → p_link ≡ option_map (λ e. e.0) (cond t (Some entry) (find (λ e. is_p_link_of (Some place) e.1) structs))) [
+    → p_link ≡ option_map (λ e. e.0) (cond t (Some entry) (find (λ e. is_p_link_of (Some place) e.1) structs))) [
       | true ↦ λ is_linked. found p_link (same entry.0 ∙ ap (is_p_linked_to place) (value_at-first entry structs) ∙ is_linked)
       | false ↦ λ not_linked. p_link_of-unique structs place p_link (KeysRise-tail entry structs rises) (λ number. same number ∙ behind number not_linked)
     ] refl
@@ -83,13 +84,14 @@ p_link_of-unique (entry ∷ structs) place p_link rises same =
     found : (p_link : Option ℕ) → is_number entry.0 p_link ≡ true → p_link ≡ Some entry.0
     found None clash = absurd (cc)
     found (Some number) same = ap Some (eqb-true number entry.0 same)
+
     behind : (number : ℕ) → is_p_link_of (Some place) entry.1 ≡ false
         → is_p_linked_to place (value_at (entry ∷ structs) number) ≡ is_p_linked_to place (value_at structs number)
     behind number not_linked = elim (number == entry.0) as (λ t. (number == entry.0) ≡ t
         → is_p_linked_to place (cond t (Some entry.1) (value_at structs number)) ≡ is_p_linked_to place (value_at structs number)) [
-      | true ↦ λ is_entry. not_linked ∙ sym (ap (is_p_linked_to place) (ap (value_at structs) (eqb-true number entry.0 is_entry) ∙ value_at-behind_first entry structs rises))
-      | false ↦ λ differ. refl
-    ] refl
+          | true ↦ λ is_entry. not_linked ∙ sym (ap (is_p_linked_to place) (ap (value_at structs) (eqb-true number entry.0 is_entry) ∙ value_at-behind_first entry structs rises))
+          | false ↦ λ differ. refl
+        ] refl
 
 pub p_link-AreTied : (structs : Table Struct) (objects : Table LinksOf) (dead : List ℕ) (place : ℕ) → AreTied structs objects dead
     → (links_at objects place).p_link ≡ p_link_of structs place
@@ -184,17 +186,17 @@ module _ (structs : Table Struct) (objects : Table LinksOf) (dead : List ℕ) (p
     queued = record {
       rises = KeysRise-with_value structs number (Linked p light place own) tied.queued.rises;
       waiting = λ q. tied.queued.waiting q
-        ∙ sym (test-with_struct is_pending structs number (Some (Linked p light place own)) (sym (ap is_pending absent)) q);
+          ∙ sym (test-with_struct is_pending structs number (Some (Linked p light place own)) (sym (ap is_pending absent)) q);
       once = tied.queued.once;
     };
     linked = λ q at.
-      ap (λ l. is_in q l.numbers) (links_at-with_value objects place (with_link (links_at objects place) number p) at)
-      ∙ linked_there q at (at == place) (q == number) (q == number) refl refl refl
-      ∙ sym (ap (is_linked_to at) (value_at-with_value structs number q (Linked p light place own)));
+        ap (λ l. is_in q l.numbers) (links_at-with_value objects place (with_link (links_at objects place) number p) at)
+        ∙ linked_there q at (at == place) (q == number) (q == number) refl refl refl
+        ∙ sym (ap (is_linked_to at) (value_at-with_value structs number q (Linked p light place own)));
     p_linked = λ q at.
-      ap (λ l. is_number q l.p_link) (links_at-with_value objects place (with_link (links_at objects place) number p) at)
-      ∙ p_linked_there q at p (at == place) (q == number) refl refl refl
-      ∙ sym (ap (is_p_linked_to at) (value_at-with_value structs number q (Linked p light place own)));
+        ap (λ l. is_number q l.p_link) (links_at-with_value objects place (with_link (links_at objects place) number p) at)
+        ∙ p_linked_there q at p (at == place) (q == number) refl refl refl
+        ∙ sym (ap (is_p_linked_to at) (value_at-with_value structs number q (Linked p light place own)));
   }
 
 -- what `inc` and `dec` leave, where the structures that are kept are those that are seen

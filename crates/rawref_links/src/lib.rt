@@ -11,7 +11,7 @@ ghost use Rattle.store_model.specs.Store.{Linked, Unlinked};
 ghost use Rattle.store_model.specs.Structs.{state_of, count_of, object_of, p_link_of, with_struct, raised, lowered, take_dead, forced_objects, with_objects};
 ghost use Rattle.store_model.specs.Links.{link_ends, cut_links};
 ghost use Rattle.rawref_links.specs.Conditions.{CanRise, CanFall, HasNoLink};
-ghost use Rattle.rawref_links.specs.Ties.{AreSound};
+ghost use Rattle.rawref_links.specs.Sound.{AreSound};
 
 mod cut;
 mod objects;
@@ -97,7 +97,8 @@ impl Links {
         requires fits { own ≤ 4294967295 }
         requires one { IsTrue p → p_link_of self.old.structs a ≡ None }
         ensures ok { OnOk result (self.new ≡ record self.old {
-            structs = with_value self.old.structs number (Linked p light a own) }) }
+          structs = with_value self.old.structs number (Linked p light a own);
+        }) }
         ensures err { OnErr result (self.new ≡ self.old) }
     {
         self.structures
@@ -113,7 +114,8 @@ impl Links {
     pub fn inc(&mut self, number: u32)
         requires { IsSomeAnd (value_at self.old.structs number) CanRise }
         ensures { self.new ≡ record self.old {
-            structs = with_struct self.old.structs number (option_map raised (value_at self.old.structs number)) } }
+          structs = with_struct self.old.structs number (option_map raised (value_at self.old.structs number));
+        } }
     {
         let structure = self.structures.get(number).unwrap();
         self.structures.set(number, structure.raised());
@@ -124,7 +126,8 @@ impl Links {
     pub fn dec(&mut self, number: u32) -> Dec
         requires { IsSomeAnd (value_at self.old.structs number) CanFall }
         ensures lowered { self.new ≡ record self.old {
-            structs = with_struct self.old.structs number (option_and_then lowered (value_at self.old.structs number)) } }
+          structs = with_struct self.old.structs number (option_and_then lowered (value_at self.old.structs number));
+        } }
         ensures deallocated { (result ≡ Dec.Deallocated)
             ↔ (value_at self.old.structs number ≡ Some (Unlinked 1)) }
     {
@@ -215,7 +218,8 @@ impl Links {
     pub fn moved(&mut self, from: u64, to: u64) -> Result<(), AllocError>
         requires { HasNoLink self.old.structs to }
         ensures ok { OnOk result (self.new ≡ record self.old {
-            structs = with_objects (λ object. if object == from then to else object) self.old.structs }) }
+          structs = with_objects (λ object. if object == from then to else object) self.old.structs;
+        }) }
         ensures err { OnErr result (self.new ≡ self.old) }
     {
         self.objects.moved(from, to)?;

@@ -106,8 +106,16 @@ impl Structure {
         ensures { result ≡ count_of self }
     {
         match self.form {
-            Form::Linked { light: true, own, .. } => LIGHT_SHARE + u64::from(own),
-            Form::Linked { light: false, own, .. } => PLAIN_SHARE + u64::from(own),
+            Form::Linked {
+                light: true,
+                own,
+                ..
+            } => LIGHT_SHARE + u64::from(own),
+            Form::Linked {
+                light: false,
+                own,
+                ..
+            } => PLAIN_SHARE + u64::from(own),
             Form::Unlinked { own } => u64::from(own),
             Form::Pending => 1,
         }
@@ -178,9 +186,7 @@ impl Structure {
         ensures { result ≡ with_object (λ _. to) self }
     {
         match self.form {
-            Form::Linked {
-                p, light, own, ..
-            } => Structure::linked(p, light, to, own),
+            Form::Linked { p, light, own, .. } => Structure::linked(p, light, to, own),
             Form::Unlinked { .. } | Form::Pending => self,
         }
     }

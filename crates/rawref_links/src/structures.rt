@@ -93,7 +93,8 @@ impl Structures {
         let mut numbers = Vec::new(alloc);
         for number in self.keys.keys() {
             if let Some(structure) = self.get(*number)
-                && structure.forced_object().is_some() {
+                && structure.forced_object().is_some()
+            {
                 numbers.push(*number)?;
             }
         }

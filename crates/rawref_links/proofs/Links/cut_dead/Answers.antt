@@ -25,14 +25,14 @@ returns-clause-cut c =
     let structs = structs-cut c.self.inside.structures c.args.self.now.structs c.self.inside.objects c.self.inside.dead.items c.deref.result.now c.args.dead.now
     c.self.invariant (ap (λ s. s.structs) c.self.view_is) (subst IsStrictlyIncreasing (sym c.deref.ensures.value) c.put_in_order.ensures.rising)
     (λ n. ap (is_in n) c.deref.ensures.value ∙ c.put_in_order.ensures.same n ∙ c.in_ok-numbers.ensures n)
-      c.cut_all.new.structures c.cut_all.ensures.structures
+    c.cut_all.new.structures c.cut_all.ensures.structures
     in
     let ends = ends-told c.self.inside.structures c.args.self.now.structs c.self.inside.objects c.self.inside.dead.items c.deref.result.now c.args.dead.now
     c.self.invariant (ap (λ s. s.structs) c.self.view_is) (subst IsStrictlyIncreasing (sym c.deref.ensures.value) c.put_in_order.ensures.rising)
     (λ n. ap (is_in n) c.deref.ensures.value ∙ c.put_in_order.ensures.same n ∙ c.in_ok-numbers.ensures n)
     in
     let queued = c.cut_all.ensures.dead ∙ ap (λ xs. xs ++ newly_dead (ends_of c.self.inside.structures c.deref.result.now)) c.reserve-2.ensures.items
-      ∙ ap (λ es. c.self.inside.dead.items ++ newly_dead es) ends ∙ ap (λ s. s.dead ++ newly_dead (link_ends (λ object. is_in object c.args.dead.now) c.args.self.now.structs)) c.self.view_is
+    ∙ ap (λ es. c.self.inside.dead.items ++ newly_dead es) ends ∙ ap (λ s. s.dead ++ newly_dead (link_ends (λ object. is_in object c.args.dead.now) c.args.self.now.structs)) c.self.view_is
     in
     λ i. record { structs = structs i; dead = queued i }
 

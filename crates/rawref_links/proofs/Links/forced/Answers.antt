@@ -10,5 +10,5 @@ returns-clause-ok c =
     ∙ ap (λ xs. xs ++ filter_map (forced_at c.self.inside.structures) c.deref.result.now) c.reserve.ensures.items
     ∙ ap (λ ns. c.args.places.now.items ++ filter_map (forced_at c.self.inside.structures) ns) c.deref.ensures.value
     ∙ ap (λ xs. c.args.places.now.items ++ xs) (forced_objects-told c.self.inside.structures c.put_in_order.new.numbers.items c.self.invariant.queued.rises
-      c.put_in_order.ensures.rising (λ n. c.put_in_order.ensures.same n ∙ c.in_ok-numbers.ensures n))
+    c.put_in_order.ensures.rising (λ n. c.put_in_order.ensures.same n ∙ c.in_ok-numbers.ensures n))
     ∙ ap (λ s. c.args.places.now.items ++ forced_objects s.structs) c.self.view_is

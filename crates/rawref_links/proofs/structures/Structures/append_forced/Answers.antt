@@ -20,9 +20,9 @@ room_left c = elim c.match-forced.branch [
 pub loop-number-preserved : goal.loop-number-preserved
 loop-number-preserved c = record {
   items = appended c.args.places.now.items c.loop-number.places.items c.match-forced.places.items
-    (filter_map (forced_at c.args.self.now) (take c.loop-number.number-index c.args.numbers.now)) (option_to_list c.forced.result) _
-    (grown c) c.loop-number.invariant.items
-    (filter_map-more (forced_at c.args.self.now) c.args.numbers.now c.loop-number.number-index 0 c.loop-number-test.true
-    ∙ ap (λ o. filter_map (forced_at c.args.self.now) (take c.loop-number.number-index c.args.numbers.now) ++ option_to_list o) (sym c.forced.ensures));
+      (filter_map (forced_at c.args.self.now) (take c.loop-number.number-index c.args.numbers.now)) (option_to_list c.forced.result) _
+      (grown c) c.loop-number.invariant.items
+      (filter_map-more (forced_at c.args.self.now) c.args.numbers.now c.loop-number.number-index 0 c.loop-number-test.true
+      ∙ ap (λ o. filter_map (forced_at c.args.self.now) (take c.loop-number.number-index c.args.numbers.now) ++ option_to_list o) (sym c.forced.ensures));
   room = room_left c;
 }
