@@ -1,6 +1,8 @@
 -- Structures in a slab, as a table from their numbers.
-use Rattle.std.proofs.Common.{◌≡◌, ℕ, Bool, true, false, cond, ◌&&◌, ◌||◌, ◌==◌, nat_eq, List, [], ◌∷◌, Option, Some, None, IsSome, is_some, ◌⊎◌, inl, inr, sym, refl, ap, ◌∙◌, arith}
+use Rattle.std.proofs.Common.{◌≡◌, ℕ, Bool, true, false, cond, ◌&&◌, ◌||◌, ◌==◌, ◌++◌, nat_eq, List, [], ◌∷◌, Option, Some, None, IsSome, is_some, ◌⊎◌, inl, inr, sym, refl, ap, ◌∙◌, arith}
 use Rattle.std.specs.Map.{lookup, keys_of}
+use Rattle.std.proofs.lemmas.Bool.{eqb-true}
+use Rattle.std.proofs.lemmas.List.Folds.{list_any-append}
 use Rattle.std.proofs.lemmas.Bool.Decides.{nat_tests}
 use Rattle.type_table.specs.Table.{Table, KeysRise, value_at, with_value, without_key}
 use Rattle.type_table.proofs.TableLaws.{KeysRise-with_value, KeysRise-entries_where, value_at-with_value, value_at-without_key}
@@ -222,3 +224,28 @@ forcing_listed slots entries seen view number =
       | Some key ↦ λ there some. let is_listed : is_in number (keys_of entries) ≡ true = listed entries number ∙ ap is_some there in
           rw is_listed (and_true (is_forcing (value_at seen number)))
     ] refl at
+
+-- the tests on a number once one more was looked at
+told_yes : (told here left forces : Bool) → (here ≡ true → forces ≡ true) → (told || (forces && (here || left))) ≡ forces
+    → ((told || (here || false)) || (forces && left)) ≡ forces
+told_yes true here left forces same so_far = so_far
+told_yes false true left forces same so_far = sym (same refl)
+told_yes false false left forces same so_far = so_far
+
+told_no : (told here left forces : Bool) → (here ≡ true → forces ≡ false) → (told || (forces && (here || left))) ≡ forces
+    → (told || (forces && left)) ≡ forces
+told_no true here left forces same so_far = so_far
+told_no false true left true same so_far = let clash : true ≡ false = same refl in absurd (cc)
+told_no false true left false same so_far = refl
+told_no false false left forces same so_far = so_far
+
+-- one number more was looked at, and is told where it keeps an object
+module _ (numbers rest : List ℕ) (forces : ℕ → Bool) (number : ℕ)
+    (so_far : (n : ℕ) → (is_in n numbers || (forces n && is_in n (number ∷ rest))) ≡ forces n) where
+  pub told_more : forces number ≡ true → (n : ℕ) → (is_in n (numbers ++ number ∷ []) || (forces n && is_in n rest)) ≡ forces n
+  told_more is n =
+      ap (λ t. t || (forces n && is_in n rest)) (list_any-append (λ y. y == n) numbers (number ∷ []))
+      ∙ told_yes (is_in n numbers) (number == n) (is_in n rest) (forces n) (λ same. ap forces (sym (eqb-true number n same)) ∙ is) (so_far n)
+
+  pub told_no_more : forces number ≡ false → (n : ℕ) → (is_in n numbers || (forces n && is_in n rest)) ≡ forces n
+  told_no_more is n = told_no (is_in n numbers) (number == n) (is_in n rest) (forces n) (λ same. ap forces (sym (eqb-true number n same)) ∙ is) (so_far n)

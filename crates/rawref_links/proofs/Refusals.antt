@@ -4,7 +4,8 @@ use Rattle.std.specs.List.{find, list_any}
 use Rattle.std.proofs.lemmas.Bool.Decides.{nat_tests}
 use Rattle.type_table.specs.Table.{Table}
 use Rattle.store_model.specs.Store.{Struct, Linked, Unlinked, Pending}
-use Rattle.store_model.specs.Structs.{p_link_of}
+use Rattle.store_model.specs.declared.structure.StructState.TheVariants as state
+use Rattle.store_model.specs.Structs.{state_of, p_link_of}
 use Rattle.store_model.specs.StructChecks.{is_pending, own_count, is_p_link_of, has_p_link}
 use Rattle.rawref_links.specs.Conditions.{CanRise, CanFall}
 
@@ -31,3 +32,10 @@ p_link_of-none (entry ∷ structs) object none =
       | true ↦ λ is. let clash : true ≡ false = sym (ap (λ t. t || has_p_link structs (Some object)) is) ∙ none in absurd (cc)
       | false ↦ λ is. p_link_of-none structs object (sym (ap (λ t. t || has_p_link structs (Some object)) is) ∙ none)
     ] refl
+
+-- what is told as absent is not there
+pub absent_from_state : (found : Option Struct) → state_of found ≡ state.Absent → found ≡ None
+absent_from_state None told = refl
+absent_from_state (Some (Linked p light object own)) told = absurd (cc)
+absent_from_state (Some (Unlinked own)) told = absurd (cc)
+absent_from_state (Some Pending) told = absurd (cc)

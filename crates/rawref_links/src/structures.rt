@@ -91,10 +91,8 @@ impl Structures {
             (number : ℕ) → is_in number numbers.items ≡ is_forcing (value_at self.now number)) }
     {
         let mut numbers = Vec::new(alloc);
-        for number in self.keys.keys() {
-            if let Some(structure) = self.get(*number)
-                && structure.forced_object().is_some()
-            {
+        for (number, key) in self.keys.iter() {
+            if self.slots[*key].forced_object().is_some() {
                 numbers.push(*number)?;
             }
         }
