@@ -1,10 +1,10 @@
 -- One more structure whose link ends, or whose object moved.
-use Rattle.std.proofs.Common.{◌≡◌, ℕ, Bool, true, false, cond, ◌||◌, ◌==◌, ◌+◌, ◌<◌, ◌++◌, List, [], ◌∷◌, length, get_or, take, Option, Some, None, IsSome, is_some, option_map, option_to_list, filter, filter_map, map, sym, refl, ap, ◌∙◌, arith, append_assoc}
+use Rattle.std.proofs.Common.{◌≡◌, ℕ, Bool, true, false, cond, ◌||◌, ◌==◌, ◌+◌, ◌<◌, ◌++◌, List, [], ◌∷◌, length, get_or, take, Option, Some, None, option_map, option_to_list, filter, filter_map, map, sym, refl, ap, ◌∙◌, append_assoc}
 use Rattle.std.specs.List.Sorted.{IsStrictlyIncreasing}
 use Rattle.std.proofs.lemmas.Bool.{eqb-true}
 use Rattle.std.proofs.lemmas.List.{take_more, map-append}
 use Rattle.std.proofs.lemmas.List.Elements.{filter_map-append, filter-append}
-use Rattle.type_table.specs.Table.{Table, KeysRise, value_at, with_value, without_key}
+use Rattle.type_table.specs.Table.{Table, KeysRise, value_at, without_key}
 use Rattle.type_table.proofs.TableLaws.{KeysRise-with_value, value_at-with_value, value_at-without_key}
 use Rattle.store_model.specs.declared.line.LinkEnd.{LinkEnd}
 use Rattle.store_model.specs.Sets.{is_in}

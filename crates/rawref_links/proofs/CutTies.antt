@@ -1,10 +1,9 @@
 -- The structures whose objects are gone.
-use Rattle.std.proofs.Common.{◌≡◌, ℕ, Bool, true, false, cond, ◌||◌, ◌&&◌, ◌==◌, ◌++◌, ◌<◌, get_or, List, [], ◌∷◌, Option, Some, None, IsSome, is_some, filter, filter_map, map, option_map, subst, sym, refl, ap, ◌∙◌, arith}
+use Rattle.std.proofs.Common.{◌≡◌, ℕ, Bool, true, false, cond, ◌||◌, ◌&&◌, ◌==◌, ◌++◌, ◌<◌, get_or, List, [], ◌∷◌, Option, Some, None, IsSome, is_some, filter, filter_map, map, option_map, subst, sym, refl, ap, ◌∙◌}
 use Rattle.std.specs.List.{All, list_any, cons_option}
 use Rattle.std.specs.List.Sorted.{IsStrictlyIncreasing}
 use Rattle.std.proofs.lemmas.Bool.{eqb-true, eq-eqb}
-use Rattle.std.proofs.lemmas.Bool.Decides.{nat_tests}
-use Rattle.std.proofs.lemmas.List.Elements.{All-nil, All-cons, All-head, All-tail}
+use Rattle.std.proofs.lemmas.List.Elements.{All-cons, All-head, All-tail}
 use Rattle.std.proofs.lemmas.List.Folds.{list_any-append, list_any_at}
 use Rattle.type_table.specs.Table.{Table, KeysRise, value_at}
 use Rattle.type_table.proofs.TableLaws.{KeysRise-tail, KeysRise-cons, first_key_below}
@@ -16,10 +15,10 @@ use Rattle.store_model.specs.StructChecks.{is_pending}
 use Rattle.store_model.specs.Links.{fate_of, left_by, link_end, link_ends, struct_after, entry_after, is_queued_by, newly_dead}
 use Rattle.rawref_links.specs.Objects.{LinksOf, no_links, links_at, is_at_one}
 use Rattle.rawref_links.specs.Cuts.{end_of, left_of, ends_of, CutsAt, AreListed}
-use Rattle.rawref_links.specs.Sound.{is_p_linked_to, AreDifferent, AreQueued}
+use Rattle.rawref_links.specs.Sound.{is_p_linked_to, AreDifferent}
 use Rattle.rawref_links.specs.Ties.{is_linked_to, is_number, AreTied}
-use Rattle.rawref_links.proofs.Tables.{same_table, value_at-below, value_at-behind_first}
-use Rattle.rawref_links.proofs.Picked.{Rises, Rises-increasing, AreDifferent-rising, found_by, picked, filter_map-same}
+use Rattle.rawref_links.proofs.Tables.{same_table, value_at-behind_first}
+use Rattle.rawref_links.proofs.Picked.{Rises-increasing, AreDifferent-rising, found_by, picked, filter_map-same}
 
 -- what is left of what was found, once the objects that pass the test are gone
 abbrev pub after_of : (ℕ → Bool) → Option Struct → Option Struct

@@ -1,5 +1,5 @@
 -- The objects that P links keep, by rising number of their structures.
-use Rattle.std.proofs.Common.{◌≡◌, ℕ, List, Option, Some, None, is_some, filter_map, option_and_then, sym, refl, ap, ◌∙◌}
+use Rattle.std.proofs.Common.{◌≡◌, ℕ, List, Option, Some, None, is_some, filter_map, option_and_then, refl, ◌∙◌}
 use Rattle.std.specs.List.Sorted.{IsStrictlyIncreasing}
 use Rattle.type_table.specs.Table.{Table, KeysRise, value_at}
 use Rattle.store_model.specs.Sets.{is_in}

@@ -1,13 +1,12 @@
 -- The links of an object that moved, where no link names its new place.
-use Rattle.std.proofs.Common.{◌≡◌, ℕ, Bool, true, false, cond, ◌||◌, ◌&&◌, ◌==◌, if◌then◌else◌, ◌<◌, nat_eq, List, [], ◌∷◌, Option, Some, None, option_map, map, subst, sym, refl, ap, ◌∙◌, arith}
-use Rattle.std.specs.Map.{keys_of}
+use Rattle.std.proofs.Common.{◌≡◌, ℕ, Bool, true, false, cond, ◌&&◌, ◌==◌, if◌then◌else◌, ◌<◌, nat_eq, List, [], ◌∷◌, Option, Some, None, option_map, subst, sym, refl, ap, ◌∙◌, arith}
 use Rattle.std.specs.List.{All}
 use Rattle.std.proofs.lemmas.Bool.{eqb-true, eq-eqb}
 use Rattle.std.proofs.lemmas.Bool.Decides.{nat_tests}
-use Rattle.std.proofs.lemmas.List.Elements.{All-nil, All-cons, All-head, All-tail}
+use Rattle.std.proofs.lemmas.List.Elements.{All-cons, All-head, All-tail}
 use Rattle.std.proofs.lemmas.Map.Made.{lookup-map_values}
-use Rattle.type_table.specs.Table.{Table, KeysRise, value_at, with_value, without_key}
-use Rattle.type_table.proofs.TableLaws.{KeysRise-tail, KeysRise-cons, first_key_below, value_at-with_value, value_at-without_key}
+use Rattle.type_table.specs.Table.{Table, KeysRise, value_at, without_key}
+use Rattle.type_table.proofs.TableLaws.{KeysRise-tail, KeysRise-cons, first_key_below, value_at-without_key}
 use Rattle.store_model.specs.Sets.{is_in}
 use Rattle.store_model.specs.Store.{Struct, Linked, Unlinked, Pending}
 use Rattle.store_model.specs.Structs.{with_object, with_objects}
@@ -15,7 +14,7 @@ use Rattle.store_model.specs.StructChecks.{is_pending}
 use Rattle.rawref_links.specs.Conditions.{HasNoLink}
 use Rattle.rawref_links.specs.Cuts.{MovesAt}
 use Rattle.rawref_links.specs.Objects.{LinksOf, no_links, links_or_none, links_at, moved_to}
-use Rattle.rawref_links.specs.Sound.{is_p_linked_to, AreQueued}
+use Rattle.rawref_links.specs.Sound.{is_p_linked_to}
 use Rattle.rawref_links.specs.Ties.{is_linked_to, is_number, AreTied}
 use Rattle.rawref_links.proofs.Tables.{same_table}
 use Rattle.rawref_links.proofs.TieLaws.{links_at-with_value}

@@ -1,5 +1,5 @@
 -- Whether a number is in a list: after a sort, and once each stands once.
-use Rattle.std.proofs.Common.{◌≡◌, ℕ, Bool, true, false, ◌||◌, ◌==◌, ◌+◌, ◌<◌, length, get_or, take, length-take, nat_eq, List, [], ◌∷◌, Contains, sym, refl, ap, ◌∙◌, arith, inl, inr, ⊎_elim}
+use Rattle.std.proofs.Common.{◌≡◌, ℕ, Bool, true, false, ◌||◌, ◌==◌, ◌+◌, ◌<◌, length, get_or, take, length-take, nat_eq, List, [], ◌∷◌, Contains, sym, refl, ap, ◌∙◌, arith}
 use Rattle.std.specs.List.{dedup, list_any}
 use Rattle.std.specs.List.Sorted.{IsPermutation, IsStrictlyIncreasing}
 use Rattle.std.specs.Cmp.{nat_eq_equiv}

@@ -1,6 +1,6 @@
 -- What a command that is not refused may ask of the structures.
-use Rattle.std.proofs.Common.{◌≡◌, ℕ, Bool, true, false, cond, ◌||◌, ◌==◌, ◌<◌, nat_le, List, [], ◌∷◌, Option, Some, None, is_none, IsSomeAnd, option_map, sym, refl, ap, ◌∙◌, arith}
-use Rattle.std.specs.List.{find, list_any}
+use Rattle.std.proofs.Common.{◌≡◌, ℕ, true, false, cond, ◌||◌, nat_le, [], ◌∷◌, Option, Some, None, is_none, IsSomeAnd, option_map, sym, refl, ap, ◌∙◌, arith}
+use Rattle.std.specs.List.{find}
 use Rattle.std.proofs.lemmas.Bool.Decides.{nat_tests}
 use Rattle.type_table.specs.Table.{Table}
 use Rattle.store_model.specs.Store.{Struct, Linked, Unlinked, Pending}

@@ -1,6 +1,6 @@
 -- What ties the structures, the links of each object and the dead queue stays, one structure at a time.
-use Rattle.std.proofs.Common.{◌≡◌, ℕ, Bool, true, false, cond, ◌||◌, ◌&&◌, ◌==◌, ◌+◌, ◌-◌, ◌<◌, ◌++◌, IsTrue, List, [], ◌∷◌, nat_eq, Option, Some, None, IsSome, is_some, IsSomeAnd, option_map, subst, sym, refl, ap, ◌∙◌, arith}
-use Rattle.std.specs.List.{find, list_any}
+use Rattle.std.proofs.Common.{◌≡◌, ℕ, Bool, true, false, cond, ◌||◌, ◌&&◌, ◌==◌, ◌-◌, IsTrue, List, [], ◌∷◌, Option, Some, None, IsSome, is_some, IsSomeAnd, option_map, subst, sym, refl, ap, ◌∙◌, arith}
+use Rattle.std.specs.List.{find}
 use Rattle.std.proofs.lemmas.Bool.{eqb-true, eq-eqb}
 use Rattle.std.proofs.lemmas.Bool.Decides.{nat_tests}
 use Rattle.std.proofs.lemmas.List.Folds.{list_any-append}
@@ -8,11 +8,11 @@ use Rattle.type_table.specs.Table.{Table, KeysRise, value_at, with_value, withou
 use Rattle.type_table.proofs.TableLaws.{KeysRise-tail, KeysRise-with_value, value_at-with_value, value_at-with_value_same}
 use Rattle.store_model.specs.Sets.{is_in}
 use Rattle.store_model.specs.Store.{Struct, Linked, Unlinked, Pending}
-use Rattle.store_model.specs.Structs.{with_struct, p_link_of, is_link_of, raised, lowered}
+use Rattle.store_model.specs.Structs.{with_struct, p_link_of, raised, lowered}
 use Rattle.store_model.specs.StructChecks.{is_p_link_of, is_pending}
-use Rattle.rawref_links.specs.Conditions.{CanRise, CanFall}
+use Rattle.rawref_links.specs.Conditions.{CanFall}
 use Rattle.rawref_links.specs.Objects.{LinksOf, links_or_none, links_at, with_link}
-use Rattle.rawref_links.specs.Sound.{is_p_linked_to, AreDifferent, AreQueued}
+use Rattle.rawref_links.specs.Sound.{is_p_linked_to}
 use Rattle.rawref_links.specs.Ties.{is_linked_to, is_number, AreTied}
 use Rattle.rawref_links.proofs.Tables.{value_at-first, value_at-behind_first, without_key-with_value}
 use Rattle.rawref_links.proofs.Tabled.{nat_eq-turned}

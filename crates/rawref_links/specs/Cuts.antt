@@ -1,5 +1,5 @@
 -- Structures at the moment when their objects are gone, by their numbers.
-use Rattle.std.specs.Prelude.{◌≡◌, ℕ, Bool, true, false, if◌then◌else◌, IsSome, List, Option, Some, None, filter_map, option_map}
+use Rattle.std.specs.Prelude.{◌≡◌, ℕ, true, if◌then◌else◌, IsSome, List, Option, Some, None, filter_map, option_map}
 use Rattle.std.specs.List.{All}
 use Rattle.std.specs.List.Sorted.{IsStrictlyIncreasing}
 use Rattle.type_table.specs.Table.{Table, KeysRise, value_at, with_value}

@@ -1,4 +1,4 @@
-use Rattle.std.proofs.Common.{◌++◌, ap, sym, ◌∙◌, filter_map}
+use Rattle.std.proofs.Common.{◌++◌, ap, ◌∙◌, filter_map}
 use Rattle.store_model.specs.Structs.{forced_objects}
 use Rattle.rawref_links.specs.Structures.{forced_at}
 use Rattle.rawref_links.proofs.LinkLaws.{forced_objects-told}

@@ -1,5 +1,4 @@
 use Rattle.std.proofs.Common.{ap, sym, subst, ◌∙◌}
-use Rattle.store_model.specs.Structs.{Structs}
 use Rattle.rawref_links.specs.Ties.{AreTied}
 use Rattle.rawref_links.proofs.TieLaws.{there_after, taken_back, AreTied-link}
 use Rattle.rawref_links.proofs.Links.link.Goals as goal

@@ -1,4 +1,4 @@
-use Rattle.std.proofs.Common.{ap, ◌∙◌}
+use Rattle.std.proofs.Common.{ap}
 use Rattle.rawref_links.proofs.MoveTies.{structs-moved, tied-moved}
 use Rattle.rawref_links.proofs.Links.moved.Goals as goal
 

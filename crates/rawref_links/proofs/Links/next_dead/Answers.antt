@@ -1,4 +1,4 @@
-use Rattle.std.proofs.Common.{◌∙◌, ap, sym, subst, Some, ◌∷◌}
+use Rattle.std.proofs.Common.{◌∙◌, ap, sym, subst}
 use Rattle.type_table.specs.Table.{with_value}
 use Rattle.rawref_links.specs.Ties.{AreTied}
 use Rattle.rawref_links.proofs.TieLaws.{AreTied-taken}

@@ -1,4 +1,4 @@
-use Rattle.std.proofs.Common.{◌≡◌, ◌+◌, ◌++◌, IsSome, take, get_or, ap, subst, sym, ◌∙◌, arith, append_assoc}
+use Rattle.std.proofs.Common.{◌+◌, IsSome, take, subst, sym, arith}
 use Rattle.rawref_links.specs.Cuts.{CutsAt}
 use Rattle.rawref_links.proofs.CutSteps.{value_at-next, CutsAt-more, ends_of-more, newly_dead-more, appended}
 use Rattle.rawref_links.proofs.cut.cut_all.Goals as goal

@@ -1,4 +1,4 @@
-use Rattle.std.proofs.Common.{get_or, subst, sym, take, ◌+◌}
+use Rattle.std.proofs.Common.{subst, sym, take, ◌+◌}
 use Rattle.rawref_links.specs.Cuts.{MovesAt}
 use Rattle.rawref_links.proofs.CutSteps.{MovesAt-more}
 use Rattle.rawref_links.proofs.cut.move_all.Goals as goal

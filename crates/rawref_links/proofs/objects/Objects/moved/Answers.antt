@@ -1,6 +1,5 @@
-use Rattle.std.proofs.Common.{◌≡◌, nat_eq, is_some, Option, None, Some, sym, ap, ◌∙◌}
-use Rattle.std.specs.Map.{lookup}
-use Rattle.rawref_links.specs.Objects.{LinksOf, moved_to, tabled}
+use Rattle.std.proofs.Common.{sym, ap, ◌∙◌}
+use Rattle.rawref_links.specs.Objects.{tabled}
 use Rattle.rawref_links.proofs.Tabled.{moved-map, stays-map}
 use Rattle.rawref_links.proofs.objects.Objects.moved.Goals as goal
 

@@ -1,6 +1,6 @@
-use Rattle.std.proofs.Common.{◌≡◌, None, subst, sym, ◌∙◌, ap}
+use Rattle.std.proofs.Common.{◌≡◌, subst, sym, ◌∙◌, ap}
 use Rattle.type_table.specs.Table.{with_value}
-use Rattle.rawref_links.specs.Structures.{AreKeyed, slot_at, structs_in}
+use Rattle.rawref_links.specs.Structures.{AreKeyed, structs_in}
 use Rattle.rawref_links.proofs.Keyed.{AreKeyed-add, structs_in-add, PutsAt}
 use Rattle.rawref_links.proofs.structures.Structures.add.Goals as goal
 

@@ -1,6 +1,6 @@
-use Rattle.std.proofs.Common.{subst, sym, ◌∙◌, ap}
+use Rattle.std.proofs.Common.{◌∙◌, ap}
 use Rattle.type_table.specs.Table.{with_value}
-use Rattle.rawref_links.proofs.Keyed.{has_key, structs_in-set, PutsAt}
+use Rattle.rawref_links.proofs.Keyed.{has_key, structs_in-set}
 use Rattle.slab.proofs.SlabLemmas.{Updates-with_value}
 use Rattle.rawref_links.proofs.structures.Structures.set.Goals as goal
 
