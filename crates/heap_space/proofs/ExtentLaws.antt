@@ -1,9 +1,9 @@
 -- Laws of extents, for the layers that hand out blocks: lists of them, and what a write or a new block leaves alone.
-use Rattle.std.proofs.Common.{◌≡◌, ℕ, ◌+◌, ◌-◌, ◌<◌, ◌≤◌, inl, inr, Bool, true, false, ◌||◌, ◌&&◌, nat_le, nat_lt, cond, List, [], ◌∷◌, ◌++◌, map, refl, sym, ap, ◌∙◌, arith}
+use Rattle.std.proofs.Common.{◌⊎◌, inl, inr, ◌≡◌, ℕ, ◌+◌, ◌-◌, ◌<◌, ◌≤◌, inl, inr, Bool, true, false, ◌||◌, ◌&&◌, nat_le, nat_lt, cond, List, [], ◌∷◌, ◌++◌, map, refl, sym, ap, ◌∙◌, arith}
 use Rattle.std.proofs.lemmas.Bool.{cases_Bool}
 use Rattle.std.proofs.lemmas.Bool.Decides.{nat_tests}
 use Rattle.std.specs.List.{filter}
-use Rattle.heap_space.specs.Places.{Placed, has, covers, spans, lies_in_one, word_at, with_word, with_block, zeros_at}
+use Rattle.heap_space.specs.Places.{end_of, Placed, has, covers, spans, lies_in_one, word_at, with_word, with_block, zeros_at}
 use Rattle.heap_space.specs.Memory.{Memory}
 use Rattle.heap_space.specs.Extents.{Extent, Each, IsApart, AreApart, extent_of, begins_between, extents_between, lies_within}
 use Rattle.heap_space.proofs.Blocks.{length-written, word_at-with_block, word_at-new, word_at-none, length-zeros_at, covers-inside}
@@ -128,3 +128,24 @@ word_at-zeros ps a n free b = elim (cases_Bool (covers (zeros_at a n) b)) [
       word_at-new ps (zeros_at a n) b h out ∙ get_or-replicate n (b - a) 0 0 (omega (arith, i.0, i.1)) ∙ sym (word_at-none ps b out))
   | inr h ↦ word_at-with_block ps (zeros_at a n) b h
 ]
+
+-- fewer of the extents pass the first test than the second
+pub lies_within-between : (xs : List Extent) (low high more a n : ℕ) → high ≤ more → lies_within (filter (begins_between low high) xs) a n ≡ true → lies_within (filter (begins_between low more) xs) a n ≡ true
+lies_within-between [] low high more a n up h = h
+lies_within-between (x ∷ xs) low high more a n up h = grind (arith, nat_tests, lies_within-between xs low high more a n up)
+
+-- the places lie in the new block, which begins between low and high
+abbrev pub IsInNew : Placed → ℕ → ℕ → ℕ → ℕ → Type 0
+IsInNew q low high a n = (low ≤ q.base) × (q.base < high) × (q.base ≤ a) × (a + n ≤ end_of q)
+
+within-block : (ps : List Placed) (q : Placed) (low high a n : ℕ) → IsInNew q low high a n ⊎ (lies_within (filter (begins_between low high) (map extent_of ps)) a n ≡ true)
+    → lies_within (filter (begins_between low high) (map extent_of (with_block ps q))) a n ≡ true
+within-block [] q low high a n h = elim h [ inl i ↦ grind (arith, nat_tests) | inr e ↦ absurd (cc) ]
+within-block (p ∷ ps) q low high a n h = grind (arith, nat_tests, within-block ps q low high a n)
+
+-- what lies in a block of the memory, or in the new one
+pub lies_within-with_block : (m new : Memory) (low high more : ℕ) (q : Placed) (a n : ℕ) → new.blocks ≡ with_block m.blocks q → high ≤ more
+    → IsInNew q low more a n ⊎ (lies_within (extents_between low high m) a n ≡ true) → lies_within (extents_between low more new) a n ≡ true
+lies_within-with_block m new low high more q a n e up h =
+    ap (λ (ps : List Placed). lies_within (filter (begins_between low more) (map extent_of ps)) a n) e
+    ∙ within-block m.blocks q low more a n (elim h [ inl i ↦ inl i | inr w ↦ inr (lies_within-between (map extent_of m.blocks) low high more a n up w) ])

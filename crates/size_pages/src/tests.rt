@@ -1,0 +1,21 @@
+//! Places of blocks, as worked out by hand: pages of 64 words, two in an arena.
+
+use super::*;
+use std::test::Fail;
+
+#[test]
+fn pages_are_begun_filled_and_ended(rt: HostRuntime) -> Result<(), Fail> {
+    let mut space = Space::new(rt.alloc(), 16, 128)?;
+    let mut pages = Pages::new(rt.alloc(), 64, 2, 56);
+    assert_eq!(rt; pages.take(&mut space, 10)?, 4294967304);
+    assert_eq!(rt; pages.take(&mut space, 10)?, 4294967314);
+    assert_eq!(rt; pages.take(&mut space, 10)?, 4294967324);
+    assert_eq!(rt; pages.take(&mut space, 10)?, 4294967334);
+    assert_eq!(rt; pages.take(&mut space, 10)?, 4294967344);
+    assert_eq!(rt; pages.take(&mut space, 10)?, 4294967368);
+    pages.give_back(&mut space, 4294967368, 10);
+    assert_eq!(rt; pages.take(&mut space, 20)?, 4294967368);
+    pages.give_back(&mut space, 4294967314, 10);
+    assert_eq!(rt; pages.take(&mut space, 10)?, 4294967314);
+    Ok(())
+}
