@@ -16,3 +16,5 @@ pub mod AroundLaws
 pub mod GrowLaws
 pub mod BeginLaws
 pub mod ChoiceLaws
+pub mod FrameLaws
+pub mod OrderLaws

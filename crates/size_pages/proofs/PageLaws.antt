@@ -22,7 +22,7 @@ Chain-frame old new n p (x ∷ xs) same c =
 abbrev pub IsFilled : ℕ → ℕ → ℕ → List Extent → Type 0
 IsFilled n low high xs = (i : ℕ) → low + i * n < high → BeginsAt (low + i * n) xs
 
-begins_into : (a : ℕ) (fs ls : List Extent) (x : Extent) → BeginsAt a (x ∷ (fs ++ ls)) → BeginsAt a (fs ++ x ∷ ls)
+pub begins_into : (a : ℕ) (fs ls : List Extent) (x : Extent) → BeginsAt a (x ∷ (fs ++ ls)) → BeginsAt a (fs ++ x ∷ ls)
 begins_into a [] ls x h = h
 begins_into a (f ∷ fs) ls x h = elim h [
   | inl e ↦ inr (begins_into a fs ls x (inl e))
