@@ -1,0 +1,5 @@
+pub mod Narrow
+pub mod PartLaws
+pub mod JoinLaws
+pub mod CallLaws
+pub mod TakeLaws

@@ -1,0 +1,2 @@
+pub mod HasBlocks
+pub mod Calls
