@@ -3,3 +3,4 @@ pub mod PartLaws
 pub mod JoinLaws
 pub mod CallLaws
 pub mod TakeLaws
+pub mod GiveLaws

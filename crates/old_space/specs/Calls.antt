@@ -1,8 +1,8 @@
 -- What the calls promise beside the live blocks and the waiting units.
-use Rattle.std.specs.Prelude.{◌≡◌, ℕ, ◌*◌, ◌<◌, ◌≤◌, []}
+use Rattle.std.specs.Prelude.{◌≡◌, ℕ, ◌*◌, ◌<◌, ◌≤◌, nat_lt, if◌then◌else◌, List, []}
 use Rattle.heap_space.specs.Memory.{Memory}
 use Rattle.store_model.specs.declared.settings.Settings.{Settings}
-use Rattle.large_objects.specs.Blocks.{larges_of}
+use Rattle.large_objects.specs.Blocks.{larges_of, without_place}
 
 -- the settings of pages lie in their ranges
 pub record HasPageSettings (settings : Settings) : Type 0 where
@@ -22,3 +22,7 @@ pub record IsEmptyFor (settings : Settings) (m : Memory) : Type 0 where
 pub record ComesFrom (small n a : ℕ) : Type 0 where
   pub page : n ≤ small → a < 1099511627776
   pub large : small < n → 1099511627776 ≤ a
+
+-- the units that wait after the block at a was given back: its page waits on, a large block does not
+abbrev pub still_waiting : ℕ → List ℕ → List ℕ
+still_waiting a waiting = if nat_lt a 1099511627776 then waiting else without_place a waiting

@@ -8,13 +8,16 @@ ghost use Rattle.heap_space.specs.Places.{word_at};
 ghost use Rattle.heap_space.specs.Memory.{Memory};
 ghost use Rattle.heap_space.specs.Extents.{Extent, KeepsOutside, KeepsWords};
 ghost use Rattle.store_model.specs.Setup.{small_words};
-ghost use Rattle.old_space.specs.Calls.{HasPageSettings, IsEmptyFor, ComesFrom};
+ghost use Rattle.old_space.specs.Calls.{HasPageSettings, IsEmptyFor, ComesFrom, still_waiting};
 
 use heap_space::Space;
 use large_objects::Large;
 use size_pages::Pages;
 use std::alloc::{AllocError, Global};
 use store_model::Settings;
+
+/// The place of the first large block: below it lie the arenas.
+const FIRST_LARGE: u64 = 1_099_511_627_776;
 
 /// The blocks outside the nursery. Every call that takes a space is to be given the same one. In
 /// between, words of live blocks may be written, and anything may change outside the arenas and the
@@ -28,7 +31,7 @@ pub struct Old {
 }
 
 impl Old {
-    ghost use Rattle.old_space.specs.HasBlocks.{HasBlocks, Stands, greatest_small};
+    ghost use Rattle.old_space.specs.HasBlocks.{HasBlocks, Stands, IsLive, greatest_small};
 
     /// No block. The error is want of memory alone.
     pub fn new(alloc: Global, settings: &Settings) -> Result<Old, AllocError>
@@ -64,6 +67,22 @@ impl Old {
             self.pages.take(space, n)
         } else {
             self.large.take(space, n)
+        }
+    }
+
+    /// Takes the block, of n words at a, off the live ones. It takes no memory.
+    pub fn give_back(&mut self, space: &mut Space, a: u64, n: u64)
+        requires { IsLive self.old space.old (a, n) }
+        ensures stands { Stands self.new space.new }
+        ensures given { (live : List Extent) (waiting : List ℕ) → HasBlocks self.old space.old ((a, n) ∷ live) waiting → HasBlocks self.new space.new live (still_waiting a waiting) }
+        ensures kept { (live : List Extent) (waiting : List ℕ) → HasBlocks self.old space.old ((a, n) ∷ live) waiting → KeepsWords space.old space.new live }
+        ensures outside { KeepsOutside 4294967296 9223372036854775808 space.old space.new }
+        ensures small { greatest_small self.new ≡ greatest_small self.old }
+    {
+        if a < FIRST_LARGE {
+            self.pages.give_back(space, a, n);
+        } else {
+            self.large.give_back(space, a, n);
         }
     }
 }
