@@ -4,3 +4,4 @@ pub mod PageLists
 pub mod HasBlocks
 pub mod Steps
 pub mod Calls
+pub mod SweepSteps

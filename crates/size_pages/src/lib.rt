@@ -16,6 +16,7 @@ mod blocks;
 mod growth;
 mod links;
 mod moves;
+mod sweep;
 #[cfg(test)]
 mod tests;
 mod words;
