@@ -21,3 +21,4 @@ pub mod OrderLaws
 pub mod WaitLaws
 pub mod QueueLaws
 pub mod BeginSweepLaws
+pub mod SplitLaws

@@ -5,3 +5,5 @@ pub mod HasBlocks
 pub mod Steps
 pub mod Calls
 pub mod SweepSteps
+pub mod Headers
+pub mod Listing

@@ -4,7 +4,7 @@ ghost use Rattle.std.specs.Prelude.{◌≡◌, ◌≢◌, ℕ, ◌+◌, ◌*◌,
 ghost use Rattle.heap_space.specs.Extents.{Extent, KeepsWords};
 ghost use Rattle.size_pages.specs.PageWords.{word_in, IsInArenas};
 ghost use Rattle.size_pages.specs.PageLists.{EachPlace, IsIn, Links};
-ghost use Rattle.size_pages.specs.HasBlocks.{HasBlocks, HasBlocksBut, KeepsSizes};
+ghost use Rattle.size_pages.specs.HasBlocks.{HasBlocks, HasBlocksBut, Stands, KeepsSizes};
 ghost use Rattle.size_pages.specs.Calls.{page_of, BeginsLive, NoneWaits, BeginsSweep};
 ghost use Rattle.size_pages.specs.SweepSteps.{CanWait, CanPutWaiting, WaitsMore};
 
@@ -29,6 +29,7 @@ impl Pages {
         ensures begun { (live : List Extent) → HasBlocks self.old space.old live [] → BeginsSweep self.new space.new live }
         ensures kept { (live : List Extent) → HasBlocks self.old space.old live [] → KeepsWords space.old space.new live }
         ensures arenas { IsInArenas space.old space.new }
+        ensures stands { Stands self.new space.new }
         ensures sizes { KeepsSizes self.old self.new }
     {
         let mut number = self.count;

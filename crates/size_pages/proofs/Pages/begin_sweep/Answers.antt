@@ -15,3 +15,6 @@ pub returns-clause-begun : goal.returns-clause-begun
 returns-clause-begun c =
     let e : c.loop-number.number ≡ 0 = omega (arith, c.loop-number-test.false) in
     sweep_begun c.args.self.now c.loop-number.self c.args.space.now c.loop-number.space (subst (λ (k : ℕ). WaitsFrom c.args.self.now c.loop-number.self c.args.space.now c.loop-number.space k) e c.loop-number.invariant)
+
+pub returns-clause-stands : goal.returns-clause-stands
+returns-clause-stands c = let n = c.requires in record { live = n.live; waiting = c.loop-number.invariant.waiting; fits = c.loop-number.invariant.fits n.live n.fits }
