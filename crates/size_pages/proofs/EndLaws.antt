@@ -154,7 +154,7 @@ give_facts pages m page a n l is =
       header = λ i small. put.header (page + i) (omega arith) (omega arith);
     }
 
-number_of_list : (kind class n : ℕ) → class ≡ n → 1 ≤ kind → kind ≢ 3 → 2 * n + (kind - 1) ≡ list_number kind class
+pub number_of_list : (kind class n : ℕ) → class ≡ n → 1 ≤ kind → kind ≢ 3 → 2 * n + (kind - 1) ≡ list_number kind class
 number_of_list kind class n e low no3 = grind (arith, nat_tests)
 
 pub can_take_off : (pages : Pages) (m : Memory) (page a n : ℕ) → IsLive pages m (a, n) → GiveFacts pages m page a n → word_in m (page + 6) ≢ 3 → CanTakeOff pages m page (2 * n + (word_in m (page + 6) - 1))

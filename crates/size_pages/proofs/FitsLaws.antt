@@ -157,7 +157,7 @@ beside w size count p s heads waiting except h is n is_s =
       next = subst (λ (y : ℕ). (y ≡ 0) ⊎ IsPage size count y) (sym (linked_behind w 0 p q.front q.behind link)) (rest_first size count p q.front q.behind all);
     }
 
-has_or : (m : Memory) (size count y i : ℕ) → 64 ≤ size → HasAll m 4294967296 (page_at size count) → page_at size count ≤ 1099511627776 → (y ≡ 0) ⊎ IsPage size count y → i < 64 → y ≢ 0 → CanStore m (y + i)
+pub has_or : (m : Memory) (size count y i : ℕ) → 64 ≤ size → HasAll m 4294967296 (page_at size count) → page_at size count ≤ 1099511627776 → (y ≡ 0) ⊎ IsPage size count y → i < 64 → y ≢ 0 → CanStore m (y + i)
 has_or m size count y i wide has_ below h small n = elim h [ inl z ↦ absurd (n z) | inr q ↦ page_has m size count y i wide has_ below q small ]
 
 pub header_has : (m : Memory) (size count p : ℕ) → 64 ≤ size → HasAll m 4294967296 (page_at size count) → page_at size count ≤ 1099511627776 → IsPage size count p → HasAll m p (p + 8)
@@ -209,7 +209,7 @@ can_link pages m page list kind c =
     }
 
 -- a word of a page that is none of its links is no link of another
-no_link : (size count j y e i : ℕ) → 64 ≤ size → (y ≡ 0) ⊎ IsPage size count y → page_at size j ≤ e → e < page_at size j + size → (e < page_at size j + 4) ⊎ (page_at size j + 8 ≤ e) → 4 ≤ i → i < 8 → e ≢ y + i
+pub no_link : (size count j y e i : ℕ) → 64 ≤ size → (y ≡ 0) ⊎ IsPage size count y → page_at size j ≤ e → e < page_at size j + size → (e < page_at size j + 4) ⊎ (page_at size j + 8 ≤ e) → 4 ≤ i → i < 8 → e ≢ y + i
 no_link size count j y e i wide py from upto part low small same = elim py [
   | inl z ↦ omega arith
   | inr q ↦ let at : y ≡ page_at size q.number = q.is in

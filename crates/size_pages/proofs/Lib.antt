@@ -18,3 +18,7 @@ pub mod BeginLaws
 pub mod ChoiceLaws
 pub mod FrameLaws
 pub mod OrderLaws
+pub mod WaitLaws
+pub mod QueueLaws
+pub mod BeginSweepLaws
+pub mod SplitLaws

@@ -258,3 +258,6 @@ can_take_first pages p2 m m2 page n st two small ne is off signs only =
 
 pub stands_on : (pages after : Pages) (m : Memory) → Stands pages m → ((live : List Extent) (waiting : List ℕ) → HasBlocks pages m live waiting → HasBlocks after m live waiting) → Stands after m
 stands_on pages after m s keeps = record { live = s.live; waiting = s.waiting; fits = keeps s.live s.waiting s.fits }
+
+pub same_stands : (pages after : Pages) (m new : Memory) (live : List Extent) (waiting : List ℕ) → after ≡ pages → new ≡ m → HasBlocks pages m live waiting → HasBlocks after new live waiting
+same_stands pages after m new live waiting e g f = subst (λ (p : Pages). HasBlocks p new live waiting) (sym e) (subst (λ (k : Memory). HasBlocks pages k live waiting) (sym g) f)

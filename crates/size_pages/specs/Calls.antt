@@ -1,9 +1,12 @@
 -- What the calls promise beside the live blocks and the waiting pages.
-use Rattle.std.specs.Prelude.{◌≡◌, ◌≢◌, ℕ, ◌+◌, ◌-◌, ◌/◌, ◌<◌, ◌≤◌, ◌⊎◌, ◌↔◌, List}
+use Rattle.std.specs.Prelude.{◌≡◌, ◌≢◌, ℕ, ◌+◌, ◌-◌, ◌/◌, ◌<◌, ◌≤◌, ◌⊎◌, ◌↔◌, List, [], length}
 use Rattle.heap_space.specs.Memory.{Memory}
 use Rattle.size_pages.specs.PageWords.{Words}
-use Rattle.size_pages.specs.LiveBlocks.{page_at}
-use Rattle.size_pages.specs.PageLists.{EachPlace, HasRoom}
+use Rattle.heap_space.specs.Extents.{Extent, Each}
+use Rattle.size_pages.specs.LiveBlocks.{page_at, blocks_of}
+use Rattle.size_pages.specs.HasBlocks.{HasBlocks, IsLive}
+use Rattle.size_pages.specs.declared.Pages.{Pages}
+use Rattle.size_pages.specs.PageLists.{EachPlace, IsIn, HasRoom}
 use Rattle.size_pages.specs.Steps.{AllUsed}
 
 -- where the page of a place begins
@@ -36,3 +39,25 @@ pub record ChangesAround (old new : Words) (page a : ℕ) : Type 0 where
   pub second : ℕ
   pub third : ℕ
   pub rest : (e : ℕ) → e ≢ a → e ≢ a + 1 → (e < page) ⊎ (page + 8 ≤ e) → e ≢ first + 4 → e ≢ second + 5 → e ≢ third + 5 → new e ≡ old e
+
+-- a live block begins at the place
+pub record BeginsLive (pages : Pages) (m : Memory) (a : ℕ) : Type 0 where
+  pub words : ℕ
+  pub live : IsLive pages m (a, words)
+
+-- no page waits
+pub record NoneWaits (pages : Pages) (m : Memory) : Type 0 where
+  pub live : List Extent
+  pub fits : HasBlocks pages m live []
+
+-- a live block lies in the page
+abbrev pub HasLive : ℕ → List Extent → ℕ → Type 0
+HasLive size live p = blocks_of size p live ≢ []
+
+-- a sweep begins: the pages with live blocks wait
+pub record BeginsSweep (pages : Pages) (m : Memory) (live : List Extent) : Type 0 where
+  pub waiting : List ℕ
+  pub fits : HasBlocks pages m live waiting
+  pub every : Each (λ x. IsIn (page_of pages.page x.0) waiting) live
+  pub only : EachPlace (HasLive pages.page live) waiting
+  pub most : length waiting ≤ length live

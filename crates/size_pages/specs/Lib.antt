@@ -4,3 +4,6 @@ pub mod PageLists
 pub mod HasBlocks
 pub mod Steps
 pub mod Calls
+pub mod SweepSteps
+pub mod Headers
+pub mod Listing

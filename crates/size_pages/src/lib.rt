@@ -16,6 +16,7 @@ mod blocks;
 mod growth;
 mod links;
 mod moves;
+mod sweep;
 #[cfg(test)]
 mod tests;
 mod words;
@@ -89,6 +90,7 @@ impl Pages {
         ensures outside { KeepsOutside 4294967296 1099511627776 space.old space.new }
         ensures err { OnErr result (space.new ≡ space.old) }
         ensures err_blocks { (live : List Extent) (waiting : List ℕ) → HasBlocks self.old space.old live waiting → OnErr result (HasBlocks self.new space.new live waiting) }
+        ensures stands { Stands self.new space.new }
         ensures sizes { KeepsSizes self.old self.new }
     {
         self.grow_heads()?;
@@ -110,6 +112,7 @@ impl Pages {
         ensures kept { (live : List Extent) (waiting : List ℕ) → HasBlocks self.old space.old ((a, n) ∷ live) waiting → KeepsWords space.old space.new live }
         ensures around { ChangesAround (word_in space.old) (word_in space.new) (page_of self.old.page a) a }
         ensures arenas { IsInArenas space.old space.new }
+        ensures stands { Stands self.new space.new }
         ensures sizes { KeepsSizes self.old self.new }
     {
         let page = self.page_of(a);

@@ -44,3 +44,15 @@ pub returns-clause-kept : goal.returns-clause-kept
 returns-clause-kept c live waiting f =
     let g = give_facts c.args.self.now c.args.space.now c.page_of-page.result c.args.a c.args.n c.requires c.page_of-page.ensures in
     given_keeps c.args.self.now c.args.space.now c.put_on_chain-2.new.space c.page_of-page.result c.args.a c.args.n 0 0 g.block.wide g.block.page c.put_on_chain-2.ensures.gives live waiting f
+
+pub returns-then-kind-eq-WAITING-clause-stands : goal.returns-then-kind-eq-WAITING-clause-stands
+returns-then-kind-eq-WAITING-clause-stands c = let l = c.requires in record { live = l.others; waiting = l.waiting; fits = give_plain c.args.self.now c.args.space.now c.put_on_chain.new.space c.page_of-page.result c.args.a c.args.n c.load-kind.result c.load-live.result c.page_of-page.ensures c.load-kind.ensures c.load-live.ensures (omega (arith, c.if-kind-eq-WAITING.true)) (λ e. absurd (omega (arith, e, c.if-kind-eq-WAITING.true))) c.put_on_chain.ensures.gives c.put_on_chain.ensures.arenas l.others l.waiting l.fits }
+
+pub returns-then-live-eq1-clause-stands : goal.returns-then-live-eq1-clause-stands
+returns-then-live-eq1-clause-stands c = let l = c.requires in record { live = l.others; waiting = l.waiting; fits = c.end_page.ensures.given l.others l.waiting l.fits }
+
+pub returns-then-kind-eq-FULL-clause-stands : goal.returns-then-kind-eq-FULL-clause-stands
+returns-then-kind-eq-FULL-clause-stands c = let l = c.requires in record { live = l.others; waiting = l.waiting; fits = c.give_back_full.ensures.given l.others l.waiting l.fits }
+
+pub returns-clause-stands : goal.returns-clause-stands
+returns-clause-stands c = let l = c.requires in record { live = l.others; waiting = l.waiting; fits = give_plain c.args.self.now c.args.space.now c.put_on_chain-2.new.space c.page_of-page.result c.args.a c.args.n c.load-kind.result c.load-live.result c.page_of-page.ensures c.load-kind.ensures c.load-live.ensures c.if-kind-eq-FULL.false (λ e. c.if-live-eq1.false) c.put_on_chain-2.ensures.gives c.put_on_chain-2.ensures.arenas l.others l.waiting l.fits }

@@ -1,9 +1,9 @@
-use Rattle.std.proofs.Common.{◌∙◌, ◌≤◌, ◌≡◌, arith, ℕ, ◌*◌, sym, ap}
+use Rattle.std.proofs.Common.{◌∷◌, ◌∙◌, ◌≤◌, ◌≡◌, arith, ℕ, ◌*◌, sym, ap}
 use Rattle.size_pages.specs.PageWords.{word_in}
 use Rattle.size_pages.proofs.ResultLaws.{on_err_any, index_default}
 use Rattle.size_pages.specs.Calls.{page_of}
 use Rattle.heap_space.specs.Memory.{Memory}
-use Rattle.size_pages.proofs.TakeLaws.{first_with_room, can_take_first, stands_on}
+use Rattle.size_pages.proofs.TakeLaws.{same_stands, first_with_room, can_take_first, stands_on}
 use Rattle.size_pages.proofs.KeepLaws.{keeps_same, keeps_then, off_keeps}
 use Rattle.size_pages.proofs.ArenaLaws.{arenas_then}
 use Rattle.size_pages.proofs.GrowthLaws.{arenas_outside, outside_then}
@@ -96,3 +96,17 @@ returns-clause-kept c live waiting f =
 
 pub returns-clause-outside : goal.returns-clause-outside
 returns-clause-outside c = outside_then c.args.space.now c.start_page.new.space c.take_unlisted-2.new.space c.in_ok-page.ensures.begun.outside (arenas_outside c.start_page.new.space c.take_unlisted-2.new.space c.take_unlisted-2.ensures.arenas)
+
+pub returns-in_err-grow_heads-clause-stands : goal.returns-in_err-grow_heads-clause-stands
+returns-in_err-grow_heads-clause-stands c = let st = c.requires.stands in record { live = st.live; waiting = st.waiting; fits = (c.grow_heads.ensures.keeps c.args.space.now st.live st.waiting st.fits) }
+
+pub returns-then-page-ne0-clause-stands : goal.returns-then-page-ne0-clause-stands
+returns-then-page-ne0-clause-stands c = let st = c.requires.stands in record { live = (c.take_unlisted.result, c.args.n) ∷ st.live; waiting = st.waiting; fits = c.take_unlisted.ensures.taken st.live st.waiting 0 (c.take_off.ensures.off st.live st.waiting (c.grow_heads.ensures.keeps c.args.space.now st.live st.waiting st.fits)) }
+
+pub returns-in_err-page-clause-stands : goal.returns-in_err-page-clause-stands
+returns-in_err-page-clause-stands c =
+    let st = c.requires.stands in
+    record { live = st.live; waiting = st.waiting; fits = same_stands c.grow_heads.new.self c.start_page.new.self c.args.space.now c.start_page.new.space st.live st.waiting c.in_err-page.ensures.err_blocks c.in_err-page.ensures.err (c.grow_heads.ensures.keeps c.args.space.now st.live st.waiting st.fits) }
+
+pub returns-clause-stands : goal.returns-clause-stands
+returns-clause-stands c = let st = c.requires.stands in record { live = (c.take_unlisted-2.result, c.args.n) ∷ st.live; waiting = st.waiting; fits = c.take_unlisted-2.ensures.taken st.live st.waiting 0 (c.in_ok-page.ensures.begun.started st.live st.waiting (c.grow_heads.ensures.keeps c.args.space.now st.live st.waiting st.fits)) }
