@@ -4,3 +4,5 @@ pub mod JoinLaws
 pub mod CallLaws
 pub mod TakeLaws
 pub mod GiveLaws
+pub mod WaitLaws
+pub mod BeginLaws

@@ -3,12 +3,11 @@
 //! units that wait to be swept: pages, and large blocks.
 #![tactic(auto)]
 
-ghost use Rattle.std.specs.Prelude.{◌≡◌, ℕ, ◌≤◌, List, [], ◌∷◌, length, IfOk, OnErr};
+ghost use Rattle.std.specs.Prelude.{◌≡◌, ◌↔◌, ℕ, ◌≤◌, List, [], ◌∷◌, length, IfOk, OnErr, IsTrue, Contains};
 ghost use Rattle.heap_space.specs.Places.{word_at};
 ghost use Rattle.heap_space.specs.Memory.{Memory};
 ghost use Rattle.heap_space.specs.Extents.{Extent, KeepsOutside, KeepsWords};
 ghost use Rattle.store_model.specs.Setup.{small_words};
-ghost use Rattle.old_space.specs.Calls.{HasPageSettings, IsEmptyFor, ComesFrom, still_waiting};
 
 use heap_space::Space;
 use large_objects::Large;
@@ -32,6 +31,7 @@ pub struct Old {
 
 impl Old {
     ghost use Rattle.old_space.specs.HasBlocks.{HasBlocks, Stands, IsLive, greatest_small};
+    ghost use Rattle.old_space.specs.Calls.{HasPageSettings, IsEmptyFor, ComesFrom, still_waiting, unit_of, BeginsLive, NoneWaits, BeginsSweep};
 
     /// No block. The error is want of memory alone.
     pub fn new(alloc: Global, settings: &Settings) -> Result<Old, AllocError>
@@ -83,6 +83,31 @@ impl Old {
             self.pages.give_back(space, a, n);
         } else {
             self.large.give_back(space, a, n);
+        }
+    }
+
+    /// The unit of each live block waits from then on. It takes no memory.
+    pub fn begin_sweep(&mut self, space: &mut Space)
+        requires { NoneWaits self.old space.old }
+        ensures stands { Stands self.new space.new }
+        ensures begun { (live : List Extent) → HasBlocks self.old space.old live [] → BeginsSweep self.new space.new live }
+        ensures kept { (live : List Extent) → HasBlocks self.old space.old live [] → KeepsWords space.old space.new live }
+        ensures outside { KeepsOutside 4294967296 9223372036854775808 space.old space.new }
+        ensures small { greatest_small self.new ≡ greatest_small self.old }
+    {
+        self.pages.begin_sweep(space);
+        self.large.begin_sweep(space);
+    }
+
+    /// Whether the unit of the live block at a waits. It takes no memory.
+    pub fn waits(&self, space: &Space, a: u64) -> bool
+        requires { BeginsLive self.now space.now a }
+        ensures { (live : List Extent) (waiting : List ℕ) → HasBlocks self.now space.now live waiting → IsTrue result ↔ Contains waiting (unit_of self.now a) }
+    {
+        if a < FIRST_LARGE {
+            self.pages.waits(space, a)
+        } else {
+            self.large.waits(space, a)
         }
     }
 }
