@@ -195,7 +195,7 @@ out_case true x xs e = absurd (let l : length (x ∷ xs) ≡ 0 = ap length e in 
 out_case false x xs e = (refl, e)
 
 -- where a page has no block, no block lies in it
-out_each : (size p : ℕ) (xs : List Extent) → blocks_of size p xs ≡ [] → Each (λ x. in_page size p x ≡ false) xs
+pub out_each : (size p : ℕ) (xs : List Extent) → blocks_of size p xs ≡ [] → Each (λ x. in_page size p x ≡ false) xs
 out_each size p [] e = tt
 out_each size p (x ∷ xs) e = let o = out_case (in_page size p x) x (blocks_of size p xs) e in (o.0, out_each size p xs o.1)
 

@@ -22,3 +22,5 @@ pub mod WaitLaws
 pub mod QueueLaws
 pub mod BeginSweepLaws
 pub mod SplitLaws
+pub mod SlotLaws
+pub mod ListingLaws

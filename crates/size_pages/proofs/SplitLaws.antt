@@ -32,11 +32,11 @@ cut_at b (x ∷ xs) h = elim h [
   | inr t ↦ let c = cut_at b xs t in record { front = x ∷ c.front; back = c.back; words = c.words; is = ap (λ (ys : List Extent). x ∷ ys) c.is }
 ]
 
-each_middle : (P : Extent → Type 0) (F L : List Extent) (x : Extent) → Each P (F ++ x ∷ L) → P x
+pub each_middle : (P : Extent → Type 0) (F L : List Extent) (x : Extent) → Each P (F ++ x ∷ L) → P x
 each_middle P [] L x h = h.0
 each_middle P (f ∷ F) L x h = each_middle P F L x h.1
 
-Each_without : (P : Extent → Type 0) (F L : List Extent) (x : Extent) → Each P (F ++ x ∷ L) → Each P (F ++ L)
+pub Each_without : (P : Extent → Type 0) (F L : List Extent) (x : Extent) → Each P (F ++ x ∷ L) → Each P (F ++ L)
 Each_without P [] L x h = h.1
 Each_without P (f ∷ F) L x h = (h.0, Each_without P F L x h.1)
 
@@ -55,14 +55,14 @@ among b n live begins apart wide sized =
       away = Each-both (λ x. 2 ≤ x.1) (IsApart (b, n)) (λ y. (y.0 < b) ⊎ (b + n ≤ y.0)) (λ y two a. elim a [ inl p ↦ inr p | inr q ↦ inl (omega arith) ]) (c.front ++ c.back) (Each_without (λ x. 2 ≤ x.1) c.front c.back (b, n) all) parted.0;
     }
 
-filter_both : (t : Extent → Bool) (F G : List Extent) → filter t (F ++ G) ≡ filter t F ++ filter t G
+pub filter_both : (t : Extent → Bool) (F G : List Extent) → filter t (F ++ G) ≡ filter t F ++ filter t G
 filter_both t [] G = refl
 filter_both t (f ∷ F) G = elim (cases_Bool (t f)) [
   | inl e ↦ rw e (ap (λ (ys : List Extent). f ∷ ys) (filter_both t F G))
   | inr e ↦ rw e (filter_both t F G)
 ]
 
-filter_same : (t u : Extent → Bool) (xs : List Extent) → Each (λ x. t x ≡ u x) xs → filter t xs ≡ filter u xs
+pub filter_same : (t u : Extent → Bool) (xs : List Extent) → Each (λ x. t x ≡ u x) xs → filter t xs ≡ filter u xs
 filter_same t u [] same = refl
 filter_same t u (x ∷ xs) same = ap (λ (b : Bool). cond b (x ∷ filter t xs) (filter t xs)) same.0 ∙ ap (λ (ys : List Extent). cond (u x) (x ∷ ys) ys) (filter_same t u xs same.1)
 

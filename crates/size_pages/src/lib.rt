@@ -15,6 +15,7 @@ ghost use Rattle.size_pages.specs.Calls.{page_of, IsInNone, TakesFrom, AddsArena
 mod blocks;
 mod growth;
 mod links;
+mod listing;
 mod moves;
 mod sweep;
 #[cfg(test)]

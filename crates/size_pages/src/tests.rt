@@ -31,3 +31,15 @@ fn a_free_block_comes_again(rt: HostRuntime) -> Result<(), Fail> {
     assert_eq!(rt; first, 4294967304);
     Ok(())
 }
+
+#[test]
+fn blocks_are_listed_by_rising_place(rt: HostRuntime) -> Result<(), Fail> {
+    let mut space = Space::new(rt.alloc(), 16, 128)?;
+    let mut pages = Pages::new(rt.alloc(), 64, 2, 56);
+    let mut blocks = Vec::new(rt.alloc());
+    pages.live_blocks(&space, &mut blocks)?;
+    assert_eq!(rt; blocks.len(), 0);
+    let first = pages.take(&mut space, 30)?;
+    assert!(rt; !pages.waits(&space, first));
+    Ok(())
+}
