@@ -6,3 +6,4 @@ pub mod TakeLaws
 pub mod GiveLaws
 pub mod WaitLaws
 pub mod BeginLaws
+pub mod ListLaws

@@ -3,10 +3,11 @@
 //! units that wait to be swept: pages, and large blocks.
 #![tactic(auto)]
 
-ghost use Rattle.std.specs.Prelude.{◌≡◌, ◌↔◌, ℕ, ◌≤◌, List, [], ◌∷◌, length, IfOk, OnErr, IsTrue, Contains};
+ghost use Rattle.std.specs.Prelude.{◌≡◌, ◌↔◌, ℕ, ◌≤◌, List, [], ◌∷◌, length, IfOk, OnOk, OnErr, IsTrue, Contains};
 ghost use Rattle.heap_space.specs.Places.{word_at};
 ghost use Rattle.heap_space.specs.Memory.{Memory};
 ghost use Rattle.heap_space.specs.Extents.{Extent, KeepsOutside, KeepsWords};
+ghost use Rattle.size_pages.specs.Headers.{AppendsLive, HoldsMore};
 ghost use Rattle.store_model.specs.Setup.{small_words};
 
 use heap_space::Space;
@@ -31,6 +32,7 @@ pub struct Old {
 
 impl Old {
     ghost use Rattle.old_space.specs.HasBlocks.{HasBlocks, Stands, IsLive, greatest_small};
+    ghost use Rattle.old_space.specs.Headers.{HasHeaders, StandsWithHeaders};
     ghost use Rattle.old_space.specs.Calls.{HasPageSettings, IsEmptyFor, ComesFrom, still_waiting, unit_of, BeginsLive, NoneWaits, BeginsSweep};
 
     /// No block. The error is want of memory alone.
@@ -109,5 +111,19 @@ impl Old {
         } else {
             self.large.waits(space, a)
         }
+    }
+
+    /// Appends the live blocks, as places and words, by rising place.
+    ///
+    /// Word 0 of each live block is to be a header without the flag Free. The error is want of memory
+    /// alone. What `out` held stands before it then, and what stands behind that is not said.
+    pub fn live_blocks(&self, space: &Space, out: &mut Vec<(u64, u64)>) -> Result<(), AllocError>
+        requires { StandsWithHeaders self.now space.now }
+        ensures listed { (live : List Extent) (waiting : List ℕ) → HasHeaders self.now space.now live waiting → OnOk result (AppendsLive out.old.items out.new.items live) }
+        ensures err { OnErr result (HoldsMore out.old.items out.new.items) }
+    {
+        self.pages.live_blocks(space, out)?;
+        self.large.live_blocks(space, out)?;
+        Ok(())
     }
 }
