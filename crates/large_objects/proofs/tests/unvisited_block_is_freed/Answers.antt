@@ -1,0 +1,8 @@
+use Rattle.std.proofs.Common.{[], ◌∷◌}
+use Rattle.large_objects.proofs.LargeLaws.{larges-fresh}
+use Rattle.large_objects.proofs.tests.unvisited_block_is_freed.Goals as goal
+
+pub begin_sweep-requires : goal.begin_sweep-requires
+begin_sweep-requires g c =
+    let none = c.in_ok-large.ensures _ (larges-fresh _ 16 64 c.in_ok-space.ensures) in
+    record { live = (c.in_ok-first.first, 100) ∷ []; blocks = c.in_ok-first.ensures.taken [] [] none }

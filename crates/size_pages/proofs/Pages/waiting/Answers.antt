@@ -1,0 +1,5 @@
+use Rattle.size_pages.proofs.ListingLaws.{slot_among}
+use Rattle.size_pages.proofs.Pages.waiting.Goals as goal
+
+pub returns : goal.returns
+returns c m live waiting h = h.waits
