@@ -1,20 +1,20 @@
 -- What a heap stands for when an object is born in the nursery.
-use Rattle.std.proofs.Common.{◌≡◌, ◌≢◌, ℕ, zero, suc, ◌+◌, ◌^◌, ◌<◌, ◌≤◌, ◌⊎◌, true, false, IsTrue, List, [], ◌∷◌, ◌++◌, length, map, Option, Some, None, refl, sym, ap, ap₂, ◌∙◌, subst, inl, inr, arith}
+use Rattle.std.proofs.Common.{◌≡◌, ◌≢◌, ℕ, ◌+◌, ◌^◌, ◌<◌, ◌≤◌, true, false, IsTrue, List, [], ◌∷◌, ◌++◌, map, Option, Some, None, refl, sym, ap, ap₂, ◌∙◌, subst, inl, inr, arith}
 use Rattle.std.specs.Prelude.{slice_set, ◌==◌, if◌then◌else◌}
 use Rattle.std.proofs.lemmas.Bool.{ne_eqb}
-use Rattle.std.proofs.lemmas.Bool.Decides.{eqb_tells}
 use Rattle.std.proofs.lemmas.List.{map-append}
 use Rattle.type_table.specs.declared.info.TypeInfo.{TypeInfo}
-use Rattle.type_table.specs.Table.{Table, value_at}
+use Rattle.type_table.specs.Table.{value_at}
 use Rattle.type_table.specs.Words.{words_in}
-use Rattle.heap_space.specs.Places.{lies_in_one, word_at, with_run}
+use Rattle.heap_space.specs.Places.{lies_in_one}
 use Rattle.heap_space.proofs.Blocks.{lies-with_run}
 use Rattle.object_view.specs.Births.{born_words}
 use Rattle.object_view.specs.Views.{HasObject}
 use Rattle.object_view.proofs.WordLaws.{is_in-head, is_in-tail, is_in-append, is_in-before, is_in-last, updated-here, updated-other}
-use Rattle.object_view.proofs.LayoutLaws.{SameAt, KeepsLayout, keeps-same}
+use Rattle.object_view.proofs.LayoutLaws.{SameAt, keeps-same}
 use Rattle.object_view.proofs.InitLaws.{two-words, lies-part}
-use Rattle.object_view.proofs.NewbornLaws.{BornAt, IsBornAt, IsFree, born-is, birth_holds, free-unmet, length-born_words, request_of}
+use Rattle.object_view.proofs.NewbornLaws.{BornAt, IsFree, born-is, birth_holds, free-unmet, request_of}
+use Rattle.object_view.proofs.FoundLaws.{kept_words-held}
 use Rattle.object_view.proofs.WholeLaws.{born-written, has_object-born, has_object-keeps}
 use Rattle.store_model.specs.declared.line.Line.TheVariants.{Born}
 use Rattle.store_model.specs.Birth.{Request, newborn, with_birth, BirthOf, BirthOfType}
@@ -23,17 +23,17 @@ use Rattle.store_model.specs.declared.line.Line.{Line}
 use Rattle.store_model.specs.Object.{Object}
 use Rattle.store_model.specs.Store.{Store, kept_words, unsettled_words}
 use Rattle.store_model.specs.Sets.{is_in}
-use Rattle.store_model.specs.ObjectWords.{renamed, updated, words_at, Covers}
+use Rattle.store_model.specs.ObjectWords.{renamed, updated, Covers}
 use Rattle.store_model.specs.Holds.{HoldsObjects, IsPointer}
 use Rattle.heap_core.specs.Parts.{HeapParts, HeapSeen, heap_of}
 use Rattle.heap_core.specs.Told.{word_in}
-use Rattle.heap_core.specs.StandsFor.{PartsStandFor, HoldsSlots, HoldsNursery, IsWalk, AreWhole, RiseBetween, plain_store}
+use Rattle.heap_core.specs.StandsFor.{PartsStandFor, HoldsSlots, RiseBetween, plain_store}
 use Rattle.heap_core.specs.Effects.{born, HasRoom, IsFitting, FitsOf, BearsOf}
 use Rattle.heap_core.specs.Commands.{AreStanding, Bears}
 use Rattle.heap_core.proofs.Births.{rise-bounds, rise-more, is_in-named}
 use Rattle.heap_core.proofs.ToldLaws.{unsettled-none}
 use Rattle.heap_core.proofs.StandLaws.{slots-set, sound-by, walk-same}
-use Rattle.heap_core.proofs.Sums.{words-newborn, kept_words-push, walk-sum, walk-within, walk-more, sum-read}
+use Rattle.heap_core.proofs.Sums.{words-newborn, kept_words-push, walk-sum, walk-within, walk-more}
 
 -- the nursery has room for so many words behind all objects, and one more birth can be counted
 pub record FitsNursery (heap : HeapParts) (type_id : ℕ) (info : TypeInfo) (items : ℕ) : Type 0 where
@@ -49,7 +49,7 @@ free_at heap store s =
     let kept : kept_words store.kept ≡ heap.unsettled =
     sym (unsettled-none store.kept) ∙ (ap (λ (t : Store). unsettled_words store.kept t.settled) (sym s.others) ∙ sym s.unsettled) in
     walk-sum heap.setup.types (word_in heap) 1 heap.free s.places s.nursery.walk
-    ∙ ap (λ (n : ℕ). 1 + n) (sym (sum-read heap.setup.types s.name (word_in heap) s.places) ∙ (ap kept_words (sym s.objects.reads) ∙ kept))
+    ∙ ap (λ (n : ℕ). 1 + n) (sym (kept_words-held s.objects) ∙ kept)
 
 -- the words behind all objects lie in the nursery
 pub free-lies : (heap : HeapParts) (store : Store) (n : ℕ) → PartsStandFor heap store → heap.free + n ≤ heap.setup.settings.nursery + 1

@@ -1,33 +1,31 @@
 -- What a heap stands for when a slot or a word of an object changes.
-use Rattle.std.proofs.Common.{◌≡◌, ◌≢◌, ℕ, zero, suc, ◌+◌, ◌<◌, ◌≤◌, ◌⊎◌, true, false, IsTrue, ◌==◌, List, [], ◌∷◌, length, map, Option, Some, None, refl, sym, ap, ap₂, ◌∙◌, subst, inl, inr, arith}
-use Rattle.std.specs.Prelude.{slice_set, slice_index_or, if◌then◌else◌, IsSome}
+use Rattle.std.proofs.Common.{◌≡◌, ◌≢◌, ℕ, zero, suc, ◌+◌, ◌<◌, ◌⊎◌, true, IsTrue, List, [], ◌∷◌, map, Option, Some, refl, sym, ap, ◌∙◌, subst, inl, inr, arith}
+use Rattle.std.specs.Prelude.{slice_set, IsSome}
 use Rattle.std.proofs.lemmas.List.{length-set, map-set}
 use Rattle.std.proofs.lemmas.Bool.{ne_eqb}
-use Rattle.std.proofs.lemmas.Bool.Decides.{eqb_tells}
 use Rattle.type_table.specs.declared.info.TypeInfo.{TypeInfo}
 use Rattle.type_table.specs.Table.{Table, value_at}
-use Rattle.heap_space.specs.Places.{lies_in_one, word_at, with_word, has}
+use Rattle.heap_space.specs.Places.{lies_in_one, word_at, has}
 use Rattle.heap_space.specs.Memory.{Memory}
 use Rattle.heap_space.proofs.Blocks.{lies-with_word}
-use Rattle.object_view.specs.Views.{HasObject}
-use Rattle.object_view.proofs.WordLaws.{is_in-head, is_in-tail, is_in-cases, is_in-nil}
+use Rattle.object_view.proofs.WordLaws.{is_in-head, is_in-tail, is_in-cases}
 use Rattle.object_view.proofs.LayoutLaws.{KeepsLayout, laid_out}
 use Rattle.object_view.proofs.SpaceLaws.{word_at-written, lies-at}
-use Rattle.object_view.proofs.ChangeLaws.{Changes, each-keeps, changes-updated}
+use Rattle.object_view.proofs.ChangeLaws.{each-keeps, changes-updated}
 use Rattle.object_view.proofs.FieldLaws.{int_holds, ref_holds}
 use Rattle.store_model.specs.declared.settings.Settings.{Settings}
 use Rattle.store_model.specs.Object.{Object}
-use Rattle.store_model.specs.Store.{Store, kept_words, unsettled_words}
+use Rattle.store_model.specs.Store.{Store, unsettled_words}
 use Rattle.store_model.specs.Sets.{is_in}
 use Rattle.store_model.specs.Slots.{held, put_in_slot, changed_at, with_int, with_ref}
-use Rattle.store_model.specs.Steps.{put_int, put_ref}
+use Rattle.store_model.specs.Steps.{put_int}
 use Rattle.store_model.specs.Sound.{IsSound}
 use Rattle.store_model.specs.Layout.{Layout}
-use Rattle.store_model.specs.ObjectWords.{renamed, updated, type_id_at, layout_at, words_at}
+use Rattle.store_model.specs.ObjectWords.{renamed, updated, words_at}
 use Rattle.store_model.specs.Holds.{HoldsObjects, IsPointer}
 use Rattle.heap_core.specs.Parts.{HeapParts}
 use Rattle.heap_core.specs.Told.{word_in, place_in}
-use Rattle.heap_core.specs.StandsFor.{PartsStandFor, HoldsSlots, HoldsNursery, IsWalk, AreWhole, RiseBetween, plain_store}
+use Rattle.heap_core.specs.StandsFor.{PartsStandFor, HoldsSlots, IsWalk, AreWhole, RiseBetween, plain_store}
 use Rattle.heap_core.specs.Effects.{with_slot, with_word_at, int_place, ref_place, layout_in}
 use Rattle.heap_core.proofs.SoundLaws.{sound_of, pointer-some}
 use Rattle.heap_core.proofs.ToldLaws.{held-named, slot-pointer, unsettled-none}

@@ -1,4 +1,4 @@
-use Rattle.std.proofs.Common.{◌≡◌, ℕ, Ok, Err, ap, sym, subst, ◌∙◌, ◌≢◌}
+use Rattle.std.proofs.Common.{ℕ, Ok, ap, sym, subst, ◌∙◌, ◌≢◌}
 use Rattle.store_model.specs.declared.command.Command.TheVariants.{Load}
 use Rattle.store_model.specs.Slots.{put_in_slot}
 use Rattle.store_model.specs.Steps.{ref_at}

@@ -1,4 +1,4 @@
-use Rattle.std.proofs.Common.{refl, ap, ◌∙◌, arith}
+use Rattle.std.proofs.Common.{refl, ap, arith}
 use Rattle.type_table.specs.Table.{value_at}
 use Rattle.heap_core.specs.Seen.{seen}
 use Rattle.heap_core.specs.declared.heap.Heap.TheInside.{Inside}
