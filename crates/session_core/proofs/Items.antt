@@ -1,24 +1,22 @@
 -- What an item that is not refused does where a session and its heap stand.
-use Rattle.std.proofs.Common.{◌≡◌, ℕ, List, [], ◌∷◌, ◌++◌, Option, Some, None, false, true, Bool, Result, Ok, Err, cond, refl, sym, ap, ◌∙◌, subst, append-nil, option_map}
-use Rattle.std.specs.Prelude.{is_none, slice_get, ◌||◌}
+use Rattle.std.proofs.Common.{◌≡◌, ℕ, List, [], ◌∷◌, ◌++◌, Option, Some, None, false, refl, sym, ap, ◌∙◌, subst, append-nil, option_map}
+use Rattle.std.specs.Prelude.{is_none, slice_get}
 use Rattle.type_table.specs.declared.info.TypeInfo.{TypeInfo}
 use Rattle.type_table.specs.Table.{Table, with_value}
 use Rattle.store_model.specs.declared.command.Command.{Command}
 use Rattle.store_model.specs.declared.item.Item.{Item}
 use Rattle.store_model.specs.declared.item.Item.TheVariants.{Blank, Setting, TypeDef, Command as CommandItem}
-use Rattle.store_model.specs.declared.item.Reason.{Reason}
 use Rattle.store_model.specs.declared.item.Reason.TheVariants.{NotBuilt, Late, SetTwice, SetRange}
 use Rattle.store_model.specs.declared.line.Line.{Line}
-use Rattle.store_model.specs.declared.settings.Settings.{Settings}
 use Rattle.store_model.specs.Setup.{Setup}
-use Rattle.store_model.specs.Store.{Store, empty_store}
+use Rattle.store_model.specs.Store.{empty_store}
 use Rattle.store_model.specs.Sets.{is_in}
 use Rattle.store_model.specs.Steps.{Does}
 use Rattle.store_model.specs.Progress.{Progress, with_setting, after_setting, after_type, after_command}
 use Rattle.store_model.specs.Checks.{first_reason, is_outside, ranges}
 use Rattle.store_model.specs.Look.{Look}
-use Rattle.store_model.specs.Refusal.{refusal, refusal_seen, command_checks}
-use Rattle.store_model.specs.Transcript.{Group, ItemDoes}
+use Rattle.store_model.specs.Refusal.{refusal_seen, command_checks}
+use Rattle.store_model.specs.Transcript.{ItemDoes}
 use Rattle.heap_core.specs.Parts.{HeapParts, HeapSeen, heap_of, started_parts, closed_heap}
 use Rattle.heap_core.specs.Told.{told}
 use Rattle.heap_core.specs.StandsFor.{StandsFor}

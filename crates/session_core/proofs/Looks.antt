@@ -1,5 +1,5 @@
 -- What session and heap tell is what a look at the store sees.
-use Rattle.std.proofs.Common.{◌≡◌, ℕ, zero, suc, Bool, List, [], ◌∷◌, Option, Some, None, replicate, refl, sym, ap, ◌∙◌, subst}
+use Rattle.std.proofs.Common.{◌≡◌, ℕ, zero, suc, Bool, List, [], Option, Some, None, replicate, refl, sym, ap, ◌∙◌, subst}
 use Rattle.std.specs.Prelude.{slice_index_or, is_none, false, option_map, option_and_then, IsSome}
 use Rattle.type_table.specs.declared.info.TypeInfo.{TypeInfo}
 use Rattle.type_table.specs.Table.{Table}
@@ -7,11 +7,9 @@ use Rattle.store_model.specs.declared.item.Item.{Item}
 use Rattle.store_model.specs.declared.settings.Settings.{Settings}
 use Rattle.store_model.specs.Setup.{Setup}
 use Rattle.store_model.specs.Store.{Store, empty_store, object_at}
-use Rattle.store_model.specs.Object.{Object}
 use Rattle.store_model.specs.Slots.{held}
 use Rattle.store_model.specs.Shapes.{kind_in, kind_of}
 use Rattle.store_model.specs.Look.{Look, look, is_held_in}
-use Rattle.store_model.specs.StructChecks.{has_p_link}
 use Rattle.store_model.specs.Progress.{Progress}
 use Rattle.store_model.specs.Refusal.{refusal, refusal_seen}
 use Rattle.store_model.specs.declared.structure.StructState.TheVariants.{Absent}
@@ -20,7 +18,7 @@ use Rattle.heap_core.specs.Told.{word_in, kind_at, told}
 use Rattle.heap_core.specs.Commands.{nothing_told}
 use Rattle.heap_core.proofs.Calls.{look_told}
 use Rattle.session_core.specs.Seen.{SessionSeen}
-use Rattle.session_core.specs.Standing.{IsStarted, HasHeap, HasStore, StandsAt, seen_if, setup_of, refusal_of}
+use Rattle.session_core.specs.Standing.{HasHeap, HasStore, StandsAt, seen_if, setup_of, refusal_of}
 
 held-none : (roots root : ℕ) → held (replicate roots None) root ≡ None
 held-none zero root = refl
