@@ -263,7 +263,7 @@ module _ (structs seen : Table Struct) (objects : Table LinksOf) (dead numbers p
 
   pub all_listed : AreListed structs numbers
   all_listed = record {
-    sound = tied.queued.rises;
+    rises = tied.queued.rises;
     rising = rising;
     there = λ k d within.
         gone_there (λ object. is_in object places) (value_at structs (get_or numbers k d))

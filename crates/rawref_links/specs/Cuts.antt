@@ -40,6 +40,6 @@ pub record MovesAt (old new : Table Struct) (numbers : List ℕ) (to : ℕ) : Ty
 
 -- structures that are there, by rising number
 pub record AreListed (structs : Table Struct) (numbers : List ℕ) : Type 0 where
-  pub sound : KeysRise structs
+  pub rises : KeysRise structs
   pub rising : IsStrictlyIncreasing numbers
   pub there : All (λ number. IsSome (value_at structs number)) numbers

@@ -4,7 +4,7 @@
 //! dead queue, or lives on by its own count.
 #![tactic(auto)]
 
-ghost use Rattle.std.specs.Prelude.{◌≡◌, ◌≤◌, ◌==◌, ◌++◌, ◌↔◌, [], ℕ, IsTrue, IsSome, IsNone, Some, None, IfOk, OnOk, OnErr, IsSomeAnd, option_map, option_and_then, slice_get, if◌then◌else◌};
+ghost use Rattle.std.specs.Prelude.{◌≡◌, ◌≤◌, ◌==◌, ◌++◌, ◌↔◌, [], IsTrue, IsSome, Some, None, IfOk, OnOk, OnErr, IsSomeAnd, option_map, option_and_then, slice_get, if◌then◌else◌};
 ghost use Rattle.type_table.specs.Table.{value_at, with_value};
 ghost use Rattle.store_model.specs.Sets.{is_in};
 ghost use Rattle.store_model.specs.Store.{Linked, Unlinked};

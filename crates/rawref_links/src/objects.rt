@@ -1,6 +1,6 @@
 //! The links of each object, found by the place at which it lies.
 
-ghost use Rattle.std.specs.Prelude.{◌≡◌, [], ◌++◌, ℕ, None, Some, IfOk, OnOk, OnErr, if◌then◌else◌};
+ghost use Rattle.std.specs.Prelude.{◌≡◌, [], ℕ, None, Some, IfOk, OnOk, OnErr, if◌then◌else◌};
 ghost use Rattle.type_table.specs.Table.{value_at, with_value, without_key};
 ghost use Rattle.rawref_links.specs.Objects.{no_links, links_at, with_link, moved_to, is_at_one};
 ghost use Rattle.store_model.specs.Sets.{is_in};

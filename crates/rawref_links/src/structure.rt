@@ -1,12 +1,11 @@
 //! One C structure: linked with an object, linked no more, or waiting in the dead queue. A linked one has two counts: PyPy's
 //! share, which tells plain and light links apart, and its own count, which C code raises and lowers.
 
-ghost use Rattle.std.specs.Prelude.{◌≡◌, Some};
+ghost use Rattle.std.specs.Prelude.{◌≡◌, Some, true};
 ghost use Rattle.store_model.specs.Store.{Linked, Unlinked, Pending};
 ghost use Rattle.store_model.specs.Structs.{state_of, count_of, object_of, forced_object, raised, lowered, with_object};
-ghost use Rattle.store_model.specs.Links.{link_end, left_by, fate_of, struct_after};
+ghost use Rattle.store_model.specs.Links.{link_end, fate_of, struct_after};
 ghost use Rattle.rawref_links.specs.Conditions.{CanRise, CanFall};
-ghost use Rattle.std.specs.Prelude.{true, ◌≤◌};
 
 use std::marker::Model;
 use store_model::{Fate, LinkEnd, StructState};
@@ -49,7 +48,6 @@ impl Model for Structure {
 
     ghost inverse = { λ s. record { form = form_of s } };
 
-    ghost use Rattle.std.specs.Prelude.{refl};
     ghost use Rattle.std.proofs.Common.{ap};
 
     ghost inverse_ok = { λ a h. ap (λ f. record { form = f }) (form_of-struct_of a.form) };
