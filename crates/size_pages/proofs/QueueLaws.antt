@@ -1,21 +1,19 @@
 -- Pages that go on the list of the waiting ones, and leave it.
-use Rattle.std.proofs.Common.{◌≡◌, ◌≢◌, ℕ, zero, ◌+◌, ◌-◌, ◌*◌, ◌/◌, ◌^◌, ◌<◌, ◌≤◌, ◌⊎◌, inl, inr, Bool, true, false, cond, ◌==◌, if◌then◌else◌, List, [], ◌∷◌, ◌++◌, length, slice_index, IsTrue, arith, refl, sym, ◌∙◌, ap, subst}
-use Rattle.std.proofs.lemmas.Bool.{cases_lt}
+use Rattle.std.proofs.Common.{◌≡◌, ◌≢◌, ℕ, ◌+◌, ◌-◌, ◌*◌, ◌<◌, ◌≤◌, ◌⊎◌, inl, inr, ◌==◌, if◌then◌else◌, List, [], ◌∷◌, length, slice_index, arith, refl, sym, ◌∙◌, ap, subst}
 use Rattle.std.proofs.lemmas.Bool.Decides.{eqb_tells, nat_tests}
-use Rattle.std.specs.List.{filter}
 use Rattle.heap_space.specs.Memory.{Memory}
-use Rattle.heap_space.specs.Extents.{Extent, Each, KeepsWords}
-use Rattle.size_pages.specs.PageWords.{Words, word_in, CanStore, HasAll, IsInArenas, PageHolds}
-use Rattle.size_pages.specs.LiveBlocks.{page_at, blocks_of, in_page, BlocksFit, ClassesFit, PageIs, IsInPages}
-use Rattle.size_pages.specs.PageLists.{EachPlace, IsIn, first_of_list, IsPage, list_number, list_of, IsRight, IsListedRightly, ListsFit, Unlinks, Links, SameSigns}
+use Rattle.heap_space.specs.Extents.{Extent}
+use Rattle.size_pages.specs.PageWords.{Words, word_in, HasAll, IsInArenas}
+use Rattle.size_pages.specs.LiveBlocks.{page_at, BlocksFit, ClassesFit}
+use Rattle.size_pages.specs.PageLists.{EachPlace, first_of_list, IsPage, list_number, list_of, IsRight, IsListedRightly, ListsFit, Unlinks, Links, SameSigns}
 use Rattle.size_pages.specs.HasBlocks.{HasBlocksBut, HasBlocks, IsPlaced, IsRising, KeepsSizes}
-use Rattle.size_pages.specs.Steps.{CanUnlink, CanLink, CanTakeOff, IsOnlyHeads}
+use Rattle.size_pages.specs.Steps.{CanLink, CanTakeOff, IsOnlyHeads}
 use Rattle.size_pages.specs.SweepSteps.{IsOnlyLists, CanWait, CanPutWaiting, WaitsMore}
 use Rattle.size_pages.specs.declared.Pages.{Pages}
-use Rattle.size_pages.proofs.FitLaws.{pages_apart, pages_part, fits_links, StaysButLinks}
-use Rattle.size_pages.proofs.ListLaws.{places_map, Cut}
-use Rattle.size_pages.proofs.ListMoves.{page_words, not_zero, first_page, lists_unlink_any, lists_link_any, right_words}
-use Rattle.size_pages.proofs.FitsLaws.{placed_same, places_of, below_of, header_has, has_or, no_link, classes_same, Beside, beside, off_signs}
+use Rattle.size_pages.proofs.FitLaws.{pages_part, fits_links, StaysButLinks}
+use Rattle.size_pages.proofs.ListLaws.{places_map}
+use Rattle.size_pages.proofs.ListMoves.{page_words, not_zero, first_page, lists_link_any}
+use Rattle.size_pages.proofs.FitsLaws.{placed_same, places_of, below_of, header_has, has_or, no_link, classes_same, beside}
 use Rattle.size_pages.proofs.EndLaws.{heads_long, number_of_list}
 use Rattle.size_pages.proofs.KeepLaws.{keeps_then, keeps_same, links_keep, off_keeps}
 use Rattle.size_pages.proofs.ArenaLaws.{arenas_then, arenas_same}
