@@ -14,13 +14,12 @@ use Rattle.size_pages.specs.declared.Pages.{Pages}
 use Rattle.size_pages.proofs.FitLaws.{pages_part, fits_one, fits_links, stays_elsewhere, StaysButLinks}
 use Rattle.size_pages.proofs.ListLaws.{Cut}
 use Rattle.size_pages.proofs.ListMoves.{not_zero, lists_unlink_any}
-use Rattle.size_pages.proofs.FitsLaws.{OnList, beside, no_link, classes_same, header_has, places_of, below_of, fits_new}
+use Rattle.size_pages.proofs.FitsLaws.{OnList, beside, no_link, classes_same, header_has, places_of, below_of, fits_any, fits_new}
 use Rattle.size_pages.proofs.GiveLaws.{IsOnlyPage, lists_inner, classes_one, only_same, length_none}
 use Rattle.size_pages.proofs.EndLaws.{heads_long, lowered_fits}
 use Rattle.size_pages.proofs.TakeLaws.{list_is}
 use Rattle.size_pages.proofs.KeepLaws.{keeps_on, keeps_then, links_keep, cleared_keeps}
 use Rattle.size_pages.proofs.ArenaLaws.{arenas_then, all_after}
-use Rattle.size_pages.proofs.QueueLaws.{fits_any}
 use Rattle.size_pages.proofs.ChoiceLaws.{IsWaitingPage, waiting_pages}
 
 -- the first waiting page
