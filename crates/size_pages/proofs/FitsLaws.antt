@@ -12,8 +12,9 @@ use Rattle.heap_space.proofs.ExtentLaws.{lies_in_one-between}
 use Rattle.size_pages.specs.PageWords.{Words, word_in, CanStore, HasAll, IsInArenas}
 use Rattle.size_pages.specs.LiveBlocks.{page_at, BlocksFit, ClassesFit}
 use Rattle.size_pages.specs.PageLists.{EachPlace, IsIn, first_of_list, Linked, IsPage, list_number, list_of, IsRight, IsListedRightly, ListsFit, Unlinks, Links, SameSigns}
-use Rattle.size_pages.specs.HasBlocks.{HasBlocksBut, HasBlocks, IsPlaced}
+use Rattle.size_pages.specs.HasBlocks.{Stands, HasBlocksBut, HasBlocks, IsPlaced, IsRising}
 use Rattle.size_pages.specs.Steps.{CanUnlink, CanLink, CanTakeOff, CanPutOn, IsOnlyHeads}
+use Rattle.size_pages.specs.SweepSteps.{IsOnlyLists}
 use Rattle.size_pages.specs.declared.Pages.{Pages}
 use Rattle.size_pages.proofs.FitLaws.{pages_apart, pages_part, fits_links, StaysButLinks}
 use Rattle.size_pages.proofs.ListLaws.{places_map, Cut, cut_at, linked_behind, linked_front}
@@ -81,8 +82,9 @@ placed_same old new size k s h =
     let P : ℕ → Type 0 = λ high. lies_within (extents_between 4294967296 high new) (page_at size k) size ≡ true in
     subst P (sym s.next_arena) (ap (λ (xs : List Extent). lies_within (filter (begins_between 4294967296 old.next_arena) xs) (page_at size k) size) s.extents ∙ h)
 
-pub fits_new : (pages after : Pages) (old new : Memory) (live then : List Extent) (waiting : List ℕ) (except except2 spare : ℕ) → HasBlocksBut pages old live waiting except spare → IsOnlyHeads pages after → IsInArenas old new → BlocksFit (word_in new) pages.page pages.count then → ClassesFit (word_in new) pages.page pages.count pages.small pages.lowest → ListsFit (word_in new) pages.page pages.count after.heads.items waiting except2 → HasBlocksBut after new then waiting except2 spare
-fits_new pages after old new live then waiting except except2 spare h only s blocks classes lists =
+-- pages whose words and lists were changed
+pub fits_any : (pages after : Pages) (old new : Memory) (live fresh : List Extent) (waiting waiting2 : List ℕ) (except except2 spare : ℕ) → HasBlocksBut pages old live waiting except spare → IsOnlyLists pages after → IsInArenas old new → BlocksFit (word_in new) pages.page pages.count fresh → ClassesFit (word_in new) pages.page pages.count pages.small pages.lowest → ListsFit (word_in new) pages.page pages.count after.heads.items waiting2 except2 → after.waiting ≡ length waiting2 → IsRising waiting2 → HasBlocksBut after new fresh waiting2 except2 spare
+fits_any pages after old new live fresh waiting waiting2 except except2 spare h only s blocks classes lists waits rising =
     let page : after.page ≡ pages.page = only.page in
     let count : after.count ≡ pages.count = only.count in
     let all_at : page_at after.page (after.count + spare) ≡ page_at pages.page (pages.count + spare) = ap (λ (k : ℕ). page_at k (after.count + spare)) page ∙ ap (λ (k : ℕ). page_at pages.page (k + spare)) count in
@@ -96,13 +98,18 @@ fits_new pages after old new live then waiting except except2 spare h only s blo
       end = s.next_arena ∙ h.end ∙ sym all_at;
       below = subst (λ (k : ℕ). k ≤ 1099511627776) (sym all_at) h.below;
       placed = λ k small. subst (λ (n : ℕ). IsPlaced new n k) (sym page) (placed_same old new pages.page k s (h.placed k (omega (arith, count, small))));
-      blocks = subst (λ (k : ℕ). BlocksFit (word_in new) k after.count then) (sym page) (subst (λ (k : ℕ). BlocksFit (word_in new) pages.page k then) (sym count) blocks);
+      blocks = subst (λ (k : ℕ). BlocksFit (word_in new) k after.count fresh) (sym page) (subst (λ (k : ℕ). BlocksFit (word_in new) pages.page k fresh) (sym count) blocks);
       classes = subst (λ (k : ℕ). ClassesFit (word_in new) k after.count after.small after.lowest) (sym page) (subst (λ (k : ℕ). ClassesFit (word_in new) pages.page k after.small after.lowest) (sym count) (subst (λ (k : ℕ). ClassesFit (word_in new) pages.page pages.count k after.lowest) (sym only.small) (subst (λ (k : ℕ). ClassesFit (word_in new) pages.page pages.count pages.small k) (sym only.lowest) classes)));
-      lists = subst (λ (k : ℕ). ListsFit (word_in new) k after.count after.heads.items waiting except2) (sym page) (subst (λ (k : ℕ). ListsFit (word_in new) pages.page k after.heads.items waiting except2) (sym count) lists);
+      lists = subst (λ (k : ℕ). ListsFit (word_in new) k after.count after.heads.items waiting2 except2) (sym page) (subst (λ (k : ℕ). ListsFit (word_in new) pages.page k after.heads.items waiting2 except2) (sym count) lists);
       heads = λ some. let long : 2 * pages.small + 2 ≤ length pages.heads.items = h.heads (omega (arith, count, some)) in let e : after.small ≡ pages.small = only.small in let r : length after.heads.items ≡ length pages.heads.items = only.room in omega arith;
-      waits = only.waiting ∙ h.waits;
-      rising = h.rising;
+      waits = waits;
+      rising = rising;
     }
+
+pub fits_new : (pages after : Pages) (old new : Memory) (live fresh : List Extent) (waiting : List ℕ) (except except2 spare : ℕ) → HasBlocksBut pages old live waiting except spare → IsOnlyHeads pages after → IsInArenas old new → BlocksFit (word_in new) pages.page pages.count fresh → ClassesFit (word_in new) pages.page pages.count pages.small pages.lowest → ListsFit (word_in new) pages.page pages.count after.heads.items waiting except2 → HasBlocksBut after new fresh waiting except2 spare
+fits_new pages after old new live fresh waiting except except2 spare h only s blocks classes lists =
+    fits_any pages after old new live fresh waiting waiting except except2 spare h
+    (record { page = only.page; pages_per_arena = only.pages_per_arena; small = only.small; count = only.count; lowest = only.lowest; room = only.room }) s blocks classes lists (only.waiting ∙ h.waits) h.rising
 
 -- where a page lies
 pub record PageFacts (size count p : ℕ) : Type 0 where
@@ -167,8 +174,17 @@ header_has m size count p wide has_ below is b from upto =
     let high : p + size ≤ page_at size count = f.high in
     has_ b (omega arith) (omega arith)
 
-pub can_unlink : (pages : Pages) (m : Memory) (page list : ℕ) → CanTakeOff pages m page list → CanUnlink m pages.heads.items page list
-can_unlink pages m page list c =
+-- the page is on that list
+pub record OnList (pages : Pages) (m : Memory) (page list : ℕ) : Type 0 where
+  pub stands : Stands pages m
+  pub is_page : IsPage pages.page pages.count page
+  pub is_list : list ≡ list_of (word_in m) page
+
+pub on_list : {pages : Pages} {m : Memory} {page list : ℕ} → CanTakeOff pages m page list → OnList pages m page list
+on_list c = record { stands = c.stands; is_page = c.is_page; is_list = c.is_list }
+
+pub can_unlink_on : (pages : Pages) (m : Memory) (page list : ℕ) → OnList pages m page list → CanUnlink m pages.heads.items page list
+can_unlink_on pages m page list c =
     let size = pages.page in
     let count = pages.count in
     let f = c.stands.fits in
@@ -186,6 +202,9 @@ can_unlink pages m page list c =
         | inr q ↦ page_words size count (word_in m (page + 5)) (word_in m (page + 4)) 4 5 wide q b.next (omega arith) (omega arith) (omega arith)
       ];
     }
+
+pub can_unlink : (pages : Pages) (m : Memory) (page list : ℕ) → CanTakeOff pages m page list → CanUnlink m pages.heads.items page list
+can_unlink pages m page list c = can_unlink_on pages m page list (on_list c)
 
 pub can_link : (pages : Pages) (m : Memory) (page list kind : ℕ) → CanPutOn pages m page list kind → CanLink m pages.heads.items page list
 can_link pages m page list kind c =
@@ -237,8 +256,8 @@ off_fits pages after m new page list c u s only live waiting f =
     let classes : ClassesFit (word_in new) size count pages.small pages.lowest = classes_same w (word_in new) size count pages.small pages.lowest f.classes (λ j below. links j below (page_at size j) (omega arith) (omega arith) (inl (omega arith))) in
     fits_new pages after m new live live waiting 0 page 0 f only s (fits_links w (word_in new) size count live f.blocks links) classes lists
 
-pub off_signs : (pages : Pages) (after : List ℕ) (m new : Memory) (page list : ℕ) → CanTakeOff pages m page list → Unlinks (word_in m) (word_in new) pages.heads.items after page list → SameSigns (word_in m) (word_in new) page
-off_signs pages after m new page list c u =
+pub signs_on : (pages : Pages) (after : List ℕ) (m new : Memory) (page list : ℕ) → OnList pages m page list → Unlinks (word_in m) (word_in new) pages.heads.items after page list → SameSigns (word_in m) (word_in new) page
+signs_on pages after m new page list c u =
     let size = pages.page in
     let count = pages.count in
     let w = word_in m in
@@ -253,6 +272,9 @@ off_signs pages after m new page list c u =
       fresh = word 3 (omega arith) (omega arith) (omega arith);
       kind = word 6 (omega arith) (omega arith) (omega arith);
     }
+
+pub off_signs : (pages : Pages) (after : List ℕ) (m new : Memory) (page list : ℕ) → CanTakeOff pages m page list → Unlinks (word_in m) (word_in new) pages.heads.items after page list → SameSigns (word_in m) (word_in new) page
+off_signs pages after m new page list c u = signs_on pages after m new page list (on_list c) u
 
 pub on_fits : (pages after : Pages) (m new : Memory) (page list kind : ℕ) → CanPutOn pages m page list kind → Links (word_in m) (word_in new) pages.heads.items after.heads.items page list kind → IsInArenas m new → IsOnlyHeads pages after → (live : List Extent) (waiting : List ℕ) (spare : ℕ) → HasBlocksBut pages m live waiting page spare → HasBlocksBut after new live waiting 0 spare
 on_fits pages after m new page list kind c u s only live waiting spare f =

@@ -1,7 +1,7 @@
 -- The live blocks are listed by rising place, slot by slot and page by page.
-use Rattle.std.proofs.Common.{◌≡◌, ◌≢◌, ℕ, ◌+◌, ◌-◌, ◌*◌, ◌/◌, ◌^◌, ◌<◌, ◌≤◌, ◌⊎◌, inl, inr, Bool, true, false, cond, nat_lt, List, [], ◌∷◌, ◌++◌, append_assoc, length, arith, refl, sym, ◌∙◌, ap, subst}
+use Rattle.std.proofs.Common.{◌≡◌, ◌≢◌, ℕ, ◌+◌, ◌-◌, ◌*◌, ◌/◌, ◌<◌, ◌≤◌, ◌⊎◌, inl, inr, Bool, true, false, nat_lt, List, [], ◌∷◌, ◌++◌, append_assoc, arith, refl, sym, ◌∙◌, ap, subst}
 use Rattle.std.proofs.Math.Nat.{mul-le-mul_right}
-use Rattle.std.proofs.lemmas.Bool.Decides.{eqb_tells, nat_tests}
+use Rattle.std.proofs.lemmas.Bool.Decides.{nat_tests}
 use Rattle.std.proofs.lemmas.Nat.{div-mul-add}
 use Rattle.std.proofs.lemmas.List.Sorted.{IsPermutation-refl, IsPermutation-sym, IsPermutation-trans, IsPermutation-cons, IsPermutation-middle, IsPermutation-to_front}
 use Rattle.std.specs.List.{filter}
@@ -11,18 +11,16 @@ use Rattle.heap_space.specs.Extents.{Extent, Each}
 use Rattle.heap_space.proofs.ExtentLaws.{Each-map, Each-left, Each-right, Each-join}
 use Rattle.object_header.specs.Words.{has_flag}
 use Rattle.object_header.specs.declared.flags.Flag.TheVariants.{Free}
-use Rattle.size_pages.specs.PageWords.{Words, word_in, CanStore, HasAll, IsBlockOf, PageHolds}
-use Rattle.size_pages.specs.LiveBlocks.{page_at, blocks_of, in_page, PageIs, IsInPages}
-use Rattle.size_pages.specs.PageLists.{IsPage}
+use Rattle.size_pages.specs.PageWords.{Words, word_in, HasAll, IsBlockOf}
+use Rattle.size_pages.specs.LiveBlocks.{page_at, blocks_of, IsInPages}
 use Rattle.size_pages.specs.HasBlocks.{HasBlocks}
-use Rattle.size_pages.specs.Headers.{IsHeaded, HasHeaders, StandsWithHeaders, RiseByPlace, AppendsLive, HoldsMore}
+use Rattle.size_pages.specs.Headers.{IsHeaded, HasHeaders, RiseByPlace, AppendsLive, HoldsMore}
 use Rattle.size_pages.specs.Listing.{CanListBlocks, blocks_below, IsListed, ListsBlocks}
 use Rattle.size_pages.specs.declared.Pages.{Pages}
 use Rattle.size_pages.proofs.FitLaws.{pages_part}
 use Rattle.size_pages.proofs.FitsLaws.{places_of, below_of}
-use Rattle.size_pages.proofs.BeginSweepLaws.{out_each}
-use Rattle.size_pages.proofs.SplitLaws.{Among, each_middle, Each_without, filter_both, below_same}
-use Rattle.size_pages.proofs.SlotLaws.{AreAway, IsFreeAt, PageSlots, page_slots, slot_is, slot_ends, all_away}
+use Rattle.size_pages.proofs.SplitLaws.{Among, each_middle, filter_both, below_same}
+use Rattle.size_pages.proofs.SlotLaws.{AreAway, PageSlots, page_slots, slot_is, all_away}
 
 -- what was appended so far, from the page's beginning to a place
 pub record ListsTo (pages : Pages) (m : Memory) (page : ℕ) (old new : List Extent) (place : ℕ) : Type 0 where
@@ -57,10 +55,10 @@ rise_more : (xs : List Extent) (x : Extent) → RiseByPlace xs → Each (λ y. y
 rise_more [] x r below = (tt, tt)
 rise_more (y ∷ ys) x r below = (Each-join (λ z. y.0 < z.0) ys (x ∷ []) r.0 (below.0, tt), rise_more ys x r.1 below.1)
 
-filter_yes : (t : Extent → Bool) (x : Extent) (xs : List Extent) → t x ≡ true → filter t (x ∷ xs) ≡ x ∷ filter t xs
+pub filter_yes : (t : Extent → Bool) (x : Extent) (xs : List Extent) → t x ≡ true → filter t (x ∷ xs) ≡ x ∷ filter t xs
 filter_yes t x xs e = rw e refl
 
-filter_no : (t : Extent → Bool) (x : Extent) (xs : List Extent) → t x ≡ false → filter t (x ∷ xs) ≡ filter t xs
+pub filter_no : (t : Extent → Bool) (x : Extent) (xs : List Extent) → t x ≡ false → filter t (x ∷ xs) ≡ filter t xs
 filter_no t x xs e = rw e refl
 
 listed_more : (live appended : List Extent) (b n : ℕ) → 0 < n → Among b n live → IsListed live appended b → IsListed live (appended ++ (b, n) ∷ []) (b + n)
@@ -169,7 +167,7 @@ slot_inside w size p i class s is_class below =
     let d : (i + 1) * w p ≡ i * w p + w p = grind arith in
     let e : i * class ≡ i * w p = ap (λ (k : ℕ). i * k) is_class in omega arith
 
-page_blocks : (pages : Pages) (m : Memory) (k : ℕ) (live : List Extent) (waiting : List ℕ) → HasBlocks pages m live waiting → k < pages.count → word_in m (page_at pages.page k) ≢ 0 → Each (IsBlockOf (word_in m (page_at pages.page k)) (page_at pages.page k + 8) (word_in m (page_at pages.page k + 3))) (blocks_of pages.page (page_at pages.page k) live)
+pub page_blocks : (pages : Pages) (m : Memory) (k : ℕ) (live : List Extent) (waiting : List ℕ) → HasBlocks pages m live waiting → k < pages.count → word_in m (page_at pages.page k) ≢ 0 → Each (IsBlockOf (word_in m (page_at pages.page k)) (page_at pages.page k + 8) (word_in m (page_at pages.page k + 3))) (blocks_of pages.page (page_at pages.page k) live)
 page_blocks pages m k live waiting f below used =
     let p = page_at pages.page k in
     let w = word_in m in
@@ -184,7 +182,7 @@ unused_away pages m k below unused live waiting h =
     all_away pages.page pages.count k p (p + pages.page) live (omega arith) (omega arith) f.blocks.inside
     (subst (AreAway p (p + pages.page)) (sym ((f.blocks.pages k below).unused unused)) tt)
 
-header_away : (pages : Pages) (m : Memory) (k : ℕ) → k < pages.count → word_in m (page_at pages.page k) ≢ 0 → (live : List Extent) (waiting : List ℕ) → HasHeaders pages m live waiting → AreAway (page_at pages.page k) (page_at pages.page k + 8) live
+pub header_away : (pages : Pages) (m : Memory) (k : ℕ) → k < pages.count → word_in m (page_at pages.page k) ≢ 0 → (live : List Extent) (waiting : List ℕ) → HasHeaders pages m live waiting → AreAway (page_at pages.page k) (page_at pages.page k + 8) live
 header_away pages m k below used live waiting h =
     let p = page_at pages.page k in
     let w = word_in m in

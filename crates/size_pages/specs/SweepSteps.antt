@@ -1,10 +1,10 @@
 -- What the steps of a sweep ask, and what they change.
-use Rattle.std.specs.Prelude.{◌≡◌, ◌≢◌, ℕ, ◌+◌, ◌*◌, ◌^◌, ◌<◌, ◌≤◌, ◌==◌, if◌then◌else◌, List, ◌∷◌, length}
+use Rattle.std.specs.Prelude.{◌≡◌, ◌≢◌, ℕ, ◌+◌, ◌^◌, ◌<◌, ◌≤◌, ◌==◌, if◌then◌else◌, List, ◌∷◌, length}
 use Rattle.heap_space.specs.Memory.{Memory}
 use Rattle.heap_space.specs.Extents.{Extent, KeepsWords}
 use Rattle.size_pages.specs.PageWords.{word_in, IsInArenas}
 use Rattle.size_pages.specs.LiveBlocks.{page_at}
-use Rattle.size_pages.specs.PageLists.{EachPlace, IsPage, IsRight}
+use Rattle.size_pages.specs.PageLists.{EachPlace, IsPage}
 use Rattle.size_pages.specs.HasBlocks.{HasBlocks, HasBlocksBut, KeepsSizes}
 use Rattle.size_pages.specs.declared.Pages.{Pages}
 
@@ -34,3 +34,12 @@ pub record WaitsMore (old new : Pages) (m after : Memory) (page : ℕ) : Type 0 
   pub sizes : KeepsSizes old new
   pub count : new.count ≡ old.count
   pub arenas : IsInArenas m after
+
+-- nothing but the heads and the number of waiting pages changes
+pub record IsOnlyLists (old new : Pages) : Type 0 where
+  pub page : new.page ≡ old.page
+  pub pages_per_arena : new.pages_per_arena ≡ old.pages_per_arena
+  pub small : new.small ≡ old.small
+  pub count : new.count ≡ old.count
+  pub lowest : new.lowest ≡ old.lowest
+  pub room : length new.heads.items ≡ length old.heads.items

@@ -5,7 +5,8 @@ ghost use Rattle.heap_space.specs.Extents.{Extent, KeepsWords};
 ghost use Rattle.size_pages.specs.PageWords.{word_in, IsInArenas};
 ghost use Rattle.size_pages.specs.PageLists.{IsPage, SameSigns, Unlinks, Links};
 ghost use Rattle.size_pages.specs.HasBlocks.{HasBlocks, HasBlocksBut, KeepsSizes};
-ghost use Rattle.size_pages.specs.Steps.{IsOnlyHeads, CanTakeOff, CanPutOn, CanEnd, CanGiveFull, CanTakeUnlisted, IsLowered};
+ghost use Rattle.size_pages.specs.Steps.{IsOnlyHeads, CanTakeOff, CanPutOn, CanEnd, CanGiveFull, CanTakeUnlisted};
+ghost use Rattle.size_pages.specs.Growth.{IsLowered};
 ghost use Rattle.size_pages.specs.Calls.{page_of, ChangesAround};
 
 use crate::blocks::{ROOM, UNUSED, clear_page, kind_of, put_on_chain, take_from};
@@ -77,7 +78,7 @@ impl Pages {
         requires { CanEnd self.old space.old page a n list }
         ensures given { (live : List Extent) (waiting : List ℕ) → HasBlocks self.old space.old ((a, n) ∷ live) waiting → HasBlocks self.new space.new live waiting }
         ensures kept { (live : List Extent) (waiting : List ℕ) → HasBlocks self.old space.old ((a, n) ∷ live) waiting → KeepsWords space.old space.new live }
-        ensures around { ChangesAround (word_in space.old) (word_in space.new) page a }
+        ensures around { ChangesAround (word_in space.old) (word_in space.new) self.old.page self.old.count page a }
         ensures sizes { KeepsSizes self.old self.new }
         ensures arenas { IsInArenas space.old space.new }
     {
@@ -92,7 +93,7 @@ impl Pages {
         requires { CanGiveFull self.old space.old page a n }
         ensures given { (live : List Extent) (waiting : List ℕ) → HasBlocks self.old space.old ((a, n) ∷ live) waiting → HasBlocks self.new space.new live waiting }
         ensures kept { (live : List Extent) (waiting : List ℕ) → HasBlocks self.old space.old ((a, n) ∷ live) waiting → KeepsWords space.old space.new live }
-        ensures around { ChangesAround (word_in space.old) (word_in space.new) page a }
+        ensures around { ChangesAround (word_in space.old) (word_in space.new) self.old.page self.old.count page a }
         ensures sizes { KeepsSizes self.old self.new }
         ensures arenas { IsInArenas space.old space.new }
     {
