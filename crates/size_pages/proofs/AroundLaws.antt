@@ -7,7 +7,8 @@ use Rattle.size_pages.specs.PageWords.{Words, word_in, IsInArenas, GivesBack, Cl
 use Rattle.size_pages.specs.LiveBlocks.{page_at}
 use Rattle.size_pages.specs.PageLists.{IsPage, Unlinks, Links, SameSigns}
 use Rattle.size_pages.specs.HasBlocks.{HasBlocks, KeepsSizes}
-use Rattle.size_pages.specs.Steps.{CanEnd, CanGiveFull, IsOnlyHeads, IsLowered}
+use Rattle.size_pages.specs.Steps.{CanEnd, CanGiveFull, IsOnlyHeads}
+use Rattle.size_pages.specs.Growth.{IsLowered}
 use Rattle.size_pages.specs.Calls.{ChangesAround}
 use Rattle.size_pages.specs.declared.Pages.{Pages}
 use Rattle.size_pages.proofs.EndLaws.{IsOff, end_fits, full_fits, same_block, block_after}

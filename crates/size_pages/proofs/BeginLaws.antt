@@ -9,7 +9,8 @@ use Rattle.size_pages.specs.PageWords.{Words, word_in, HasAll, IsInArenas, Start
 use Rattle.size_pages.specs.LiveBlocks.{page_at}
 use Rattle.size_pages.specs.PageLists.{IsPage, SameSigns, Unlinks}
 use Rattle.size_pages.specs.HasBlocks.{HasBlocksBut, HasBlocks, Stands, KeepsSizes}
-use Rattle.size_pages.specs.Steps.{AllUsed, HasUnused, IsRaised, IsLowestUnused, IsOnlyHeads, IsOnlyCounts, CanTakeOff, CanStart, CanTakeUnlisted, CanList, ListsPages, AddsPages, BeginsPage}
+use Rattle.size_pages.specs.Steps.{IsOnlyHeads, CanTakeOff, CanStart, CanTakeUnlisted}
+use Rattle.size_pages.specs.Growth.{AllUsed, HasUnused, IsRaised, IsLowestUnused, IsOnlyCounts, CanList, ListsPages, AddsPages, BeginsPage}
 use Rattle.size_pages.specs.declared.Pages.{Pages}
 use Rattle.size_pages.proofs.FitLaws.{pages_part}
 use Rattle.size_pages.proofs.FitsLaws.{page_mono, header_has, places_of, below_of}

@@ -7,7 +7,7 @@ use Rattle.size_pages.specs.PageWords.{Words, word_in}
 use Rattle.size_pages.specs.LiveBlocks.{page_at}
 use Rattle.size_pages.specs.PageLists.{EachPlace, IsPage, list_number, list_of, IsListedRightly, ListsFit, HasRoom}
 use Rattle.size_pages.specs.HasBlocks.{HasBlocks, Stands, KeepsSizes}
-use Rattle.size_pages.specs.Steps.{BeginsPage}
+use Rattle.size_pages.specs.Growth.{BeginsPage}
 use Rattle.size_pages.specs.Calls.{page_of, IsInNone, TakesFrom, AddsArena}
 use Rattle.size_pages.specs.declared.Pages.{Pages}
 use Rattle.size_pages.proofs.FitLaws.{pages_apart}

@@ -8,7 +8,8 @@ use Rattle.size_pages.specs.PageWords.{word_in, CanStore, IsInArenas, IsBlockOf,
 use Rattle.size_pages.specs.LiveBlocks.{page_at, blocks_of, BlocksFit, ClassesFit}
 use Rattle.size_pages.specs.PageLists.{IsPage, list_number, IsRight, IsListedRightly, ListsFit, SameSigns}
 use Rattle.size_pages.specs.HasBlocks.{IsPlaced, HasBlocksBut, HasBlocks, IsLive, KeepsSizes}
-use Rattle.size_pages.specs.Steps.{CanPut, CanTakeOff, CanPutOn, CanEnd, CanGiveFull, IsOnlyHeads, BlockIn, IsLowered}
+use Rattle.size_pages.specs.Steps.{CanPut, CanTakeOff, CanPutOn, CanEnd, CanGiveFull, IsOnlyHeads, BlockIn}
+use Rattle.size_pages.specs.Growth.{IsLowered}
 use Rattle.size_pages.specs.declared.Pages.{Pages}
 use Rattle.size_pages.proofs.GiveLaws.{block_in, used_page, can_put, given_fits, right_given, cleared_fits}
 

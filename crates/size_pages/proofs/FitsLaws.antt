@@ -12,7 +12,7 @@ use Rattle.heap_space.proofs.ExtentLaws.{lies_in_one-between}
 use Rattle.size_pages.specs.PageWords.{Words, word_in, CanStore, HasAll, IsInArenas}
 use Rattle.size_pages.specs.LiveBlocks.{page_at, BlocksFit, ClassesFit}
 use Rattle.size_pages.specs.PageLists.{EachPlace, IsIn, first_of_list, Linked, IsPage, list_number, list_of, IsRight, IsListedRightly, ListsFit, Unlinks, Links, SameSigns}
-use Rattle.size_pages.specs.HasBlocks.{HasBlocksBut, HasBlocks, IsPlaced}
+use Rattle.size_pages.specs.HasBlocks.{Stands, HasBlocksBut, HasBlocks, IsPlaced}
 use Rattle.size_pages.specs.Steps.{CanUnlink, CanLink, CanTakeOff, CanPutOn, IsOnlyHeads}
 use Rattle.size_pages.specs.declared.Pages.{Pages}
 use Rattle.size_pages.proofs.FitLaws.{pages_apart, pages_part, fits_links, StaysButLinks}
@@ -167,8 +167,17 @@ header_has m size count p wide has_ below is b from upto =
     let high : p + size ≤ page_at size count = f.high in
     has_ b (omega arith) (omega arith)
 
-pub can_unlink : (pages : Pages) (m : Memory) (page list : ℕ) → CanTakeOff pages m page list → CanUnlink m pages.heads.items page list
-can_unlink pages m page list c =
+-- the page is on that list
+pub record OnList (pages : Pages) (m : Memory) (page list : ℕ) : Type 0 where
+  pub stands : Stands pages m
+  pub is_page : IsPage pages.page pages.count page
+  pub is_list : list ≡ list_of (word_in m) page
+
+pub on_list : {pages : Pages} {m : Memory} {page list : ℕ} → CanTakeOff pages m page list → OnList pages m page list
+on_list c = record { stands = c.stands; is_page = c.is_page; is_list = c.is_list }
+
+pub can_unlink_on : (pages : Pages) (m : Memory) (page list : ℕ) → OnList pages m page list → CanUnlink m pages.heads.items page list
+can_unlink_on pages m page list c =
     let size = pages.page in
     let count = pages.count in
     let f = c.stands.fits in
@@ -186,6 +195,9 @@ can_unlink pages m page list c =
         | inr q ↦ page_words size count (word_in m (page + 5)) (word_in m (page + 4)) 4 5 wide q b.next (omega arith) (omega arith) (omega arith)
       ];
     }
+
+pub can_unlink : (pages : Pages) (m : Memory) (page list : ℕ) → CanTakeOff pages m page list → CanUnlink m pages.heads.items page list
+can_unlink pages m page list c = can_unlink_on pages m page list (on_list c)
 
 pub can_link : (pages : Pages) (m : Memory) (page list kind : ℕ) → CanPutOn pages m page list kind → CanLink m pages.heads.items page list
 can_link pages m page list kind c =
@@ -237,8 +249,8 @@ off_fits pages after m new page list c u s only live waiting f =
     let classes : ClassesFit (word_in new) size count pages.small pages.lowest = classes_same w (word_in new) size count pages.small pages.lowest f.classes (λ j below. links j below (page_at size j) (omega arith) (omega arith) (inl (omega arith))) in
     fits_new pages after m new live live waiting 0 page 0 f only s (fits_links w (word_in new) size count live f.blocks links) classes lists
 
-pub off_signs : (pages : Pages) (after : List ℕ) (m new : Memory) (page list : ℕ) → CanTakeOff pages m page list → Unlinks (word_in m) (word_in new) pages.heads.items after page list → SameSigns (word_in m) (word_in new) page
-off_signs pages after m new page list c u =
+pub signs_on : (pages : Pages) (after : List ℕ) (m new : Memory) (page list : ℕ) → OnList pages m page list → Unlinks (word_in m) (word_in new) pages.heads.items after page list → SameSigns (word_in m) (word_in new) page
+signs_on pages after m new page list c u =
     let size = pages.page in
     let count = pages.count in
     let w = word_in m in
@@ -253,6 +265,9 @@ off_signs pages after m new page list c u =
       fresh = word 3 (omega arith) (omega arith) (omega arith);
       kind = word 6 (omega arith) (omega arith) (omega arith);
     }
+
+pub off_signs : (pages : Pages) (after : List ℕ) (m new : Memory) (page list : ℕ) → CanTakeOff pages m page list → Unlinks (word_in m) (word_in new) pages.heads.items after page list → SameSigns (word_in m) (word_in new) page
+off_signs pages after m new page list c u = signs_on pages after m new page list (on_list c) u
 
 pub on_fits : (pages after : Pages) (m new : Memory) (page list kind : ℕ) → CanPutOn pages m page list kind → Links (word_in m) (word_in new) pages.heads.items after.heads.items page list kind → IsInArenas m new → IsOnlyHeads pages after → (live : List Extent) (waiting : List ℕ) (spare : ℕ) → HasBlocksBut pages m live waiting page spare → HasBlocksBut after new live waiting 0 spare
 on_fits pages after m new page list kind c u s only live waiting spare f =

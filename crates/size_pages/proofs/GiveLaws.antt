@@ -165,7 +165,7 @@ right_given old new size p a kind far g h not_full more =
       busy = λ e. let two : 2 ≤ old (p + 2) = more e in omega arith;
     }
 
-length_none : (xs : List Extent) → length xs ≡ 0 → xs ≡ []
+pub length_none : (xs : List Extent) → length xs ≡ 0 → xs ≡ []
 length_none [] e = refl
 length_none (x ∷ xs) e = absurd (omega arith)
 

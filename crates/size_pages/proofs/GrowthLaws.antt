@@ -13,7 +13,7 @@ use Rattle.size_pages.specs.PageWords.{Words, word_in, CanStore, IsInArenas}
 use Rattle.size_pages.specs.LiveBlocks.{page_at, BlocksFit, ClassesFit}
 use Rattle.size_pages.specs.PageLists.{EachPlace, IsIn, first_of_list, IsPage, list_number, list_of, IsListedRightly, ListsFit}
 use Rattle.size_pages.specs.HasBlocks.{HasBlocksBut, HasBlocks, Stands}
-use Rattle.size_pages.specs.Steps.{AllUsed, HasUnused, IsRaised, IsLowestUnused}
+use Rattle.size_pages.specs.Growth.{AllUsed, HasUnused, IsRaised, IsLowestUnused}
 use Rattle.size_pages.specs.Calls.{NoneHasRoom}
 use Rattle.size_pages.specs.declared.Pages.{Pages}
 use Rattle.size_pages.proofs.FitLaws.{pages_part}

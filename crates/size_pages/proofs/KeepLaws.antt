@@ -12,7 +12,7 @@ use Rattle.size_pages.specs.Steps.{CanTakeOff, CanTakeUnlisted}
 use Rattle.size_pages.specs.declared.Pages.{Pages}
 use Rattle.size_pages.proofs.FitLaws.{pages_apart}
 use Rattle.size_pages.proofs.ListMoves.{not_zero, first_page}
-use Rattle.size_pages.proofs.FitsLaws.{beside}
+use Rattle.size_pages.proofs.FitsLaws.{beside, OnList, on_list}
 use Rattle.size_pages.proofs.TakeLaws.{Taken, taken_fits}
 
 -- the place lies in a page, behind its header
@@ -54,12 +54,15 @@ no_header size count e y i b py small same =
           ]
     ]
 
-pub off_keeps : (pages : Pages) (after : List ℕ) (m new : Memory) (page list : ℕ) → CanTakeOff pages m page list → Unlinks (word_in m) (word_in new) pages.heads.items after page list → (live : List Extent) (waiting : List ℕ) → HasBlocks pages m live waiting → KeepsWords m new live
-off_keeps pages after m new page list c u live waiting f =
+pub keeps_on : (pages : Pages) (after : List ℕ) (m new : Memory) (page list : ℕ) → OnList pages m page list → Unlinks (word_in m) (word_in new) pages.heads.items after page list → (live : List Extent) (waiting : List ℕ) → HasBlocks pages m live waiting → KeepsWords m new live
+keeps_on pages after m new page list c u live waiting f =
     let size = pages.page in
     let count = pages.count in
     let b = beside (word_in m) size count page list pages.heads.items waiting 0 f.lists c.is_page (not_zero size count page c.is_page) c.is_list in
     keeps_at m new size count live f.blocks.inside (λ e at. u.rest e (no_header size count e (word_in m (page + 5)) 4 at b.before (omega arith)) (no_header size count e (word_in m (page + 4)) 5 at b.next (omega arith)))
+
+pub off_keeps : (pages : Pages) (after : List ℕ) (m new : Memory) (page list : ℕ) → CanTakeOff pages m page list → Unlinks (word_in m) (word_in new) pages.heads.items after page list → (live : List Extent) (waiting : List ℕ) → HasBlocks pages m live waiting → KeepsWords m new live
+off_keeps pages after m new page list c u live waiting f = keeps_on pages after m new page list (on_list c) u live waiting f
 
 pub links_keep : (pages : Pages) (after : List ℕ) (m new : Memory) (page list kind : ℕ) (live : List Extent) (waiting : List ℕ) (spare : ℕ) → IsPage pages.page pages.count page → Links (word_in m) (word_in new) pages.heads.items after page list kind → HasBlocksBut pages m live waiting page spare → KeepsWords m new live
 links_keep pages after m new page list kind live waiting spare is_page u f =

@@ -24,3 +24,7 @@ pub mod BeginSweepLaws
 pub mod SplitLaws
 pub mod SlotLaws
 pub mod ListingLaws
+pub mod GatherLaws
+pub mod SweepLaws
+pub mod RelistLaws
+pub mod PageSweepLaws

@@ -57,10 +57,10 @@ rise_more : (xs : List Extent) (x : Extent) → RiseByPlace xs → Each (λ y. y
 rise_more [] x r below = (tt, tt)
 rise_more (y ∷ ys) x r below = (Each-join (λ z. y.0 < z.0) ys (x ∷ []) r.0 (below.0, tt), rise_more ys x r.1 below.1)
 
-filter_yes : (t : Extent → Bool) (x : Extent) (xs : List Extent) → t x ≡ true → filter t (x ∷ xs) ≡ x ∷ filter t xs
+pub filter_yes : (t : Extent → Bool) (x : Extent) (xs : List Extent) → t x ≡ true → filter t (x ∷ xs) ≡ x ∷ filter t xs
 filter_yes t x xs e = rw e refl
 
-filter_no : (t : Extent → Bool) (x : Extent) (xs : List Extent) → t x ≡ false → filter t (x ∷ xs) ≡ filter t xs
+pub filter_no : (t : Extent → Bool) (x : Extent) (xs : List Extent) → t x ≡ false → filter t (x ∷ xs) ≡ filter t xs
 filter_no t x xs e = rw e refl
 
 listed_more : (live appended : List Extent) (b n : ℕ) → 0 < n → Among b n live → IsListed live appended b → IsListed live (appended ++ (b, n) ∷ []) (b + n)
@@ -169,7 +169,7 @@ slot_inside w size p i class s is_class below =
     let d : (i + 1) * w p ≡ i * w p + w p = grind arith in
     let e : i * class ≡ i * w p = ap (λ (k : ℕ). i * k) is_class in omega arith
 
-page_blocks : (pages : Pages) (m : Memory) (k : ℕ) (live : List Extent) (waiting : List ℕ) → HasBlocks pages m live waiting → k < pages.count → word_in m (page_at pages.page k) ≢ 0 → Each (IsBlockOf (word_in m (page_at pages.page k)) (page_at pages.page k + 8) (word_in m (page_at pages.page k + 3))) (blocks_of pages.page (page_at pages.page k) live)
+pub page_blocks : (pages : Pages) (m : Memory) (k : ℕ) (live : List Extent) (waiting : List ℕ) → HasBlocks pages m live waiting → k < pages.count → word_in m (page_at pages.page k) ≢ 0 → Each (IsBlockOf (word_in m (page_at pages.page k)) (page_at pages.page k + 8) (word_in m (page_at pages.page k + 3))) (blocks_of pages.page (page_at pages.page k) live)
 page_blocks pages m k live waiting f below used =
     let p = page_at pages.page k in
     let w = word_in m in
@@ -184,7 +184,7 @@ unused_away pages m k below unused live waiting h =
     all_away pages.page pages.count k p (p + pages.page) live (omega arith) (omega arith) f.blocks.inside
     (subst (AreAway p (p + pages.page)) (sym ((f.blocks.pages k below).unused unused)) tt)
 
-header_away : (pages : Pages) (m : Memory) (k : ℕ) → k < pages.count → word_in m (page_at pages.page k) ≢ 0 → (live : List Extent) (waiting : List ℕ) → HasHeaders pages m live waiting → AreAway (page_at pages.page k) (page_at pages.page k + 8) live
+pub header_away : (pages : Pages) (m : Memory) (k : ℕ) → k < pages.count → word_in m (page_at pages.page k) ≢ 0 → (live : List Extent) (waiting : List ℕ) → HasHeaders pages m live waiting → AreAway (page_at pages.page k) (page_at pages.page k + 8) live
 header_away pages m k below used live waiting h =
     let p = page_at pages.page k in
     let w = word_in m in

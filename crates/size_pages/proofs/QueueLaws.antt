@@ -10,7 +10,7 @@ use Rattle.size_pages.specs.LiveBlocks.{page_at, blocks_of, in_page, BlocksFit, 
 use Rattle.size_pages.specs.PageLists.{EachPlace, IsIn, first_of_list, IsPage, list_number, list_of, IsRight, IsListedRightly, ListsFit, Unlinks, Links, SameSigns}
 use Rattle.size_pages.specs.HasBlocks.{HasBlocksBut, HasBlocks, IsPlaced, IsRising, KeepsSizes}
 use Rattle.size_pages.specs.Steps.{CanUnlink, CanLink, CanTakeOff, IsOnlyHeads}
-use Rattle.size_pages.specs.SweepSteps.{CanWait, CanPutWaiting, WaitsMore}
+use Rattle.size_pages.specs.SweepSteps.{IsOnlyLists, CanWait, CanPutWaiting, WaitsMore}
 use Rattle.size_pages.specs.declared.Pages.{Pages}
 use Rattle.size_pages.proofs.FitLaws.{pages_apart, pages_part, fits_links, StaysButLinks}
 use Rattle.size_pages.proofs.ListLaws.{places_map, Cut}
@@ -19,15 +19,6 @@ use Rattle.size_pages.proofs.FitsLaws.{placed_same, places_of, below_of, header_
 use Rattle.size_pages.proofs.EndLaws.{heads_long, number_of_list}
 use Rattle.size_pages.proofs.KeepLaws.{keeps_then, keeps_same, links_keep, off_keeps}
 use Rattle.size_pages.proofs.ArenaLaws.{arenas_then, arenas_same}
-
--- nothing but the heads and the number of waiting pages changes
-pub record IsOnlyLists (old new : Pages) : Type 0 where
-  pub page : new.page ≡ old.page
-  pub pages_per_arena : new.pages_per_arena ≡ old.pages_per_arena
-  pub small : new.small ≡ old.small
-  pub count : new.count ≡ old.count
-  pub lowest : new.lowest ≡ old.lowest
-  pub room : length new.heads.items ≡ length old.heads.items
 
 pub fits_any : (pages after : Pages) (old new : Memory) (live fresh : List Extent) (waiting waiting2 : List ℕ) (except except2 spare : ℕ) → HasBlocksBut pages old live waiting except spare → IsOnlyLists pages after → IsInArenas old new → BlocksFit (word_in new) pages.page pages.count fresh → ClassesFit (word_in new) pages.page pages.count pages.small pages.lowest → ListsFit (word_in new) pages.page pages.count after.heads.items waiting2 except2 → after.waiting ≡ length waiting2 → IsRising waiting2 → HasBlocksBut after new fresh waiting2 except2 spare
 fits_any pages after old new live fresh waiting waiting2 except except2 spare h only s blocks classes lists waits rising =

@@ -8,7 +8,8 @@ use Rattle.size_pages.specs.PageWords.{Words, word_in, IsInArenas, PageHolds, St
 use Rattle.size_pages.specs.LiveBlocks.{page_at, blocks_of, in_page, BlocksFit, ClassesFit, PageIs, IsInPages}
 use Rattle.size_pages.specs.PageLists.{IsPage, list_number, list_of, IsListedRightly, ListsFit, Links}
 use Rattle.size_pages.specs.HasBlocks.{IsPlaced, HasBlocksBut, Stands, KeepsSizes}
-use Rattle.size_pages.specs.Steps.{CanStart, CanTakeOff, CanPutOn, CanTakeUnlisted, IsOnlyHeads, IsLowestUnused, CanList, ListsPages}
+use Rattle.size_pages.specs.Steps.{CanStart, CanTakeOff, CanPutOn, CanTakeUnlisted, IsOnlyHeads}
+use Rattle.size_pages.specs.Growth.{IsLowestUnused, CanList, ListsPages}
 use Rattle.size_pages.specs.declared.Pages.{Pages}
 use Rattle.size_pages.proofs.PageLaws.{page_holds}
 use Rattle.size_pages.proofs.FitLaws.{fits_one, stays_elsewhere, page_used, pages_part, filter_skips, in_page_false}

@@ -181,7 +181,7 @@ taken_signs m new page n x c t =
           record { class = g.rest page (omega arith) (omega arith) (omega arith) (omega arith); count = omega arith }
     ]
 
-list_is : (kind class n : ℕ) → class ≡ n → (kind ≡ 1) ⊎ (kind ≡ 2) → 2 * n + (kind - 1) ≡ list_number kind class
+pub list_is : (kind class n : ℕ) → class ≡ n → (kind ≡ 1) ⊎ (kind ≡ 2) → 2 * n + (kind - 1) ≡ list_number kind class
 list_is kind class n e k = elim k [ inl a ↦ grind (arith, nat_tests) | inr b ↦ grind (arith, nat_tests) ]
 
 pub can_put_back : (pages : Pages) (m new : Memory) (page n x kind : ℕ) → CanTakeUnlisted pages m page n → Taken (word_in m) (word_in new) page n x → IsInArenas m new → (kind ≡ 1) ⊎ (kind ≡ 2) → (kind ≡ 1 → (word_in new (page + 1) ≢ 0) ⊎ (word_in new (page + 3) + n ≤ page + pages.page)) → (kind ≡ 2 → (word_in new (page + 1) ≡ 0) × (page + pages.page < word_in new (page + 3) + n)) → CanPutOn pages new page (2 * n + (kind - 1)) kind

@@ -7,7 +7,7 @@ use Rattle.size_pages.specs.LiveBlocks.{page_at, blocks_of}
 use Rattle.size_pages.specs.HasBlocks.{HasBlocks, IsLive}
 use Rattle.size_pages.specs.declared.Pages.{Pages}
 use Rattle.size_pages.specs.PageLists.{EachPlace, IsIn, HasRoom}
-use Rattle.size_pages.specs.Steps.{AllUsed}
+use Rattle.size_pages.specs.Growth.{AllUsed}
 
 -- where the page of a place begins
 abbrev pub page_of : ℕ → ℕ → ℕ

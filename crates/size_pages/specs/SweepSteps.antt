@@ -34,3 +34,12 @@ pub record WaitsMore (old new : Pages) (m after : Memory) (page : ℕ) : Type 0 
   pub sizes : KeepsSizes old new
   pub count : new.count ≡ old.count
   pub arenas : IsInArenas m after
+
+-- nothing but the heads and the number of waiting pages changes
+pub record IsOnlyLists (old new : Pages) : Type 0 where
+  pub page : new.page ≡ old.page
+  pub pages_per_arena : new.pages_per_arena ≡ old.pages_per_arena
+  pub small : new.small ≡ old.small
+  pub count : new.count ≡ old.count
+  pub lowest : new.lowest ≡ old.lowest
+  pub room : length new.heads.items ≡ length old.heads.items

@@ -6,7 +6,8 @@ ghost use Rattle.heap_space.specs.Extents.{Extent, KeepsWords, KeepsOutside};
 ghost use Rattle.size_pages.specs.PageWords.{word_in, IsInArenas};
 ghost use Rattle.size_pages.specs.LiveBlocks.{page_at};
 ghost use Rattle.size_pages.specs.HasBlocks.{HasBlocks, HasBlocksBut, Stands, KeepsSizes};
-ghost use Rattle.size_pages.specs.Steps.{CanTakeUnlisted, HasUnused, AllUsed, IsLowestUnused, IsRaised, IsOnlyCounts, CanList, ListsPages, AddsPages, BeginsPage};
+ghost use Rattle.size_pages.specs.Steps.{CanTakeUnlisted};
+ghost use Rattle.size_pages.specs.Growth.{HasUnused, AllUsed, IsLowestUnused, IsRaised, IsOnlyCounts, CanList, ListsPages, AddsPages, BeginsPage};
 
 use crate::blocks::{UNUSED, start_class};
 use crate::words::load;

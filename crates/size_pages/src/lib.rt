@@ -17,6 +17,7 @@ mod growth;
 mod links;
 mod listing;
 mod moves;
+mod page_sweep;
 mod sweep;
 #[cfg(test)]
 mod tests;

@@ -5,7 +5,8 @@ ghost use Rattle.heap_space.specs.Extents.{Extent, KeepsWords};
 ghost use Rattle.size_pages.specs.PageWords.{word_in, IsInArenas};
 ghost use Rattle.size_pages.specs.PageLists.{IsPage, SameSigns, Unlinks, Links};
 ghost use Rattle.size_pages.specs.HasBlocks.{HasBlocks, HasBlocksBut, KeepsSizes};
-ghost use Rattle.size_pages.specs.Steps.{IsOnlyHeads, CanTakeOff, CanPutOn, CanEnd, CanGiveFull, CanTakeUnlisted, IsLowered};
+ghost use Rattle.size_pages.specs.Steps.{IsOnlyHeads, CanTakeOff, CanPutOn, CanEnd, CanGiveFull, CanTakeUnlisted};
+ghost use Rattle.size_pages.specs.Growth.{IsLowered};
 ghost use Rattle.size_pages.specs.Calls.{page_of, ChangesAround};
 
 use crate::blocks::{ROOM, UNUSED, clear_page, kind_of, put_on_chain, take_from};

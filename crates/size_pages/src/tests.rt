@@ -33,13 +33,21 @@ fn a_free_block_comes_again(rt: HostRuntime) -> Result<(), Fail> {
 }
 
 #[test]
-fn blocks_are_listed_by_rising_place(rt: HostRuntime) -> Result<(), Fail> {
+fn a_page_that_waits_is_unused_after_its_sweep(rt: HostRuntime) -> Result<(), Fail> {
     let mut space = Space::new(rt.alloc(), 16, 128)?;
     let mut pages = Pages::new(rt.alloc(), 64, 2, 56);
     let mut blocks = Vec::new(rt.alloc());
     pages.live_blocks(&space, &mut blocks)?;
     assert_eq!(rt; blocks.len(), 0);
-    let first = pages.take(&mut space, 30)?;
-    assert!(rt; !pages.waits(&space, first));
+    let block = pages.take(&mut space, 10)?;
+    pages.begin_sweep(&mut space);
+    assert!(rt; pages.waits(&space, block));
+    pages.give_back(&mut space, block, 10);
+    assert_eq!(rt; pages.waiting(), 1);
+    let mut freed = Vec::new(rt.alloc());
+    pages.sweep_page(&mut space, &mut freed)?;
+    assert_eq!(rt; freed.len(), 0);
+    assert_eq!(rt; pages.waiting(), 0);
+    assert_eq!(rt; pages.take(&mut space, 20)?, 4294967304);
     Ok(())
 }

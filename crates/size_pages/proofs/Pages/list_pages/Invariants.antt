@@ -1,4 +1,4 @@
-use Rattle.size_pages.specs.Steps.{ListsPages}
+use Rattle.size_pages.specs.Growth.{ListsPages}
 use Rattle.size_pages.proofs.Pages.list_pages.Given as goal
 
 abbrev pub invariant-loop-page : goal.invariant-loop-page

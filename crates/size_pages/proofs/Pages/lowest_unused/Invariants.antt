@@ -1,6 +1,6 @@
 use Rattle.std.proofs.Common.{◌<◌, ◌-◌}
 use Rattle.size_pages.specs.PageWords.{word_in}
-use Rattle.size_pages.specs.Steps.{AllUsed}
+use Rattle.size_pages.specs.Growth.{AllUsed}
 use Rattle.size_pages.proofs.Pages.lowest_unused.Given as goal
 
 abbrev pub invariant-loop-number : goal.invariant-loop-number

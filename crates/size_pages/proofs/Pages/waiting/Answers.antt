@@ -1,4 +1,3 @@
-use Rattle.size_pages.proofs.ListingLaws.{slot_among}
 use Rattle.size_pages.proofs.Pages.waiting.Goals as goal
 
 pub returns : goal.returns
