@@ -26,6 +26,7 @@ fn unvisited_block_is_freed(rt: HostRuntime) -> Result<(), Fail> {
     let first = large.take(&mut space, 100)?;
     large.begin_sweep(&mut space);
     assert_eq!(rt; large.waiting(), 1);
+    assert!(rt; large.waits(&space, first));
     let second = large.take(&mut space, 70)?;
     assert_eq!(rt; large.waiting(), 1);
     let mut freed = Vec::new(rt.alloc());

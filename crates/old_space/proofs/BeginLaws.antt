@@ -1,12 +1,11 @@
 -- A sweep begins.
-use Rattle.std.proofs.Common.{◌≡◌, ℕ, ◌+◌, ◌<◌, ◌≤◌, true, false, nat_lt, List, [], ◌∷◌, ◌++◌, length, length-append, refl, sym, ap, ◌∙◌, arith, subst}
+use Rattle.std.proofs.Common.{◌≡◌, ℕ, ◌+◌, ◌<◌, ◌≤◌, true, false, nat_lt, List, [], ◌∷◌, ◌++◌, length-append, refl, sym, ◌∙◌, arith, subst}
 use Rattle.std.specs.List.{Contains}
 use Rattle.std.proofs.lemmas.Bool.Decides.{nat_tests}
-use Rattle.std.proofs.lemmas.List.Sorted.{IsPermutation-refl}
 use Rattle.std.proofs.lemmas.List.Elements.{Contains-append_left, Contains-append_right}
 use Rattle.heap_space.specs.Memory.{Memory}
 use Rattle.heap_space.specs.Extents.{Extent, Each, KeepsOutside, KeepsWords}
-use Rattle.heap_space.proofs.ExtentLaws.{Each-map, Each-both, Each-join}
+use Rattle.heap_space.proofs.ExtentLaws.{Each-both, Each-join}
 use Rattle.size_pages.specs.HasBlocks as pages
 use Rattle.size_pages.specs.PageLists.{IsIn}
 use Rattle.size_pages.specs.PageWords.{IsInArenas}
@@ -17,9 +16,9 @@ use Rattle.size_pages.proofs.FrameLaws.{IsBlock}
 use Rattle.large_objects.specs.Blocks.{larges_of, places_of}
 use Rattle.large_objects.specs.Large as larges
 use Rattle.large_objects.specs.declared.Large.{Large}
-use Rattle.large_objects.proofs.Same.{Same, Each-same, length-same, same-permutation}
+use Rattle.large_objects.proofs.Same.{Each-same, length-same, same-permutation}
 use Rattle.large_objects.proofs.Rising.{length-places}
-use Rattle.old_space.specs.HasBlocks.{HasBlocks, Stands}
+use Rattle.old_space.specs.HasBlocks.{HasBlocks}
 use Rattle.old_space.specs.Calls.{unit_of, NoneWaits, BeginsSweep}
 use Rattle.old_space.specs.declared.Old.{Old}
 use Rattle.old_space.proofs.PartLaws.{larges-kept, pages-each}

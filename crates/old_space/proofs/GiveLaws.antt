@@ -1,10 +1,10 @@
 -- What `give_back` leaves, by the part that the block is of.
-use Rattle.std.proofs.Common.{inl, inr, ◌≡◌, ◌≢◌, ℕ, ◌+◌, ◌<◌, ◌≤◌, ◌⊎◌, true, false, nat_lt, not, List, [], ◌∷◌, ◌++◌, map, refl, sym, ap, ◌∙◌, arith, subst, append_assoc}
+use Rattle.std.proofs.Common.{inl, inr, ◌≡◌, ℕ, ◌+◌, ◌<◌, ◌≤◌, ◌⊎◌, true, false, nat_lt, not, List, [], ◌∷◌, ◌++◌, refl, sym, ap, ◌∙◌, arith, subst, append_assoc}
 use Rattle.std.specs.Prelude.{filter, ◌==◌}
 use Rattle.std.proofs.lemmas.Bool.Decides.{nat_tests}
 use Rattle.std.proofs.lemmas.List.Elements.{filter-append}
 use Rattle.heap_space.specs.Memory.{Memory, without_large}
-use Rattle.heap_space.specs.Extents.{Extent, Each, extent_of, begins_between, KeepsOutside, KeepsWords}
+use Rattle.heap_space.specs.Extents.{Extent, begins_between, KeepsOutside, KeepsWords}
 use Rattle.heap_space.proofs.ExtentLaws.{Each-join}
 use Rattle.size_pages.specs.HasBlocks as pages
 use Rattle.size_pages.specs.PageWords.{IsInArenas}
@@ -17,7 +17,7 @@ use Rattle.large_objects.specs.declared.Large.{Large}
 use Rattle.large_objects.proofs.Same.{Same, Splits, Each-same, same-permutation, permutation-same, same-splits, same-out}
 use Rattle.large_objects.proofs.PlaceLaws.{splits-first, Each-splits}
 use Rattle.large_objects.proofs.LargeLaws as large_laws
-use Rattle.old_space.specs.HasBlocks.{HasBlocks, Stands, IsLive}
+use Rattle.old_space.specs.HasBlocks.{HasBlocks, IsLive}
 use Rattle.old_space.specs.Calls.{still_waiting}
 use Rattle.old_space.specs.declared.Old.{Old}
 use Rattle.old_space.proofs.PartLaws.{pages-kept, larges-kept, pages-below, waiting-below}

@@ -7,3 +7,4 @@ pub mod GiveLaws
 pub mod WaitLaws
 pub mod BeginLaws
 pub mod ListLaws
+pub mod FreshLaws

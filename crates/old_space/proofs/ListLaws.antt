@@ -1,11 +1,9 @@
 -- The live blocks by rising place.
-use Rattle.std.proofs.Common.{◌≡◌, ℕ, ◌+◌, ◌<◌, ◌≤◌, List, [], ◌∷◌, ◌++◌, Result, Ok, Err, OnErr, refl, sym, ap, ◌∙◌, arith, subst, append_assoc}
-use Rattle.std.specs.List.Sorted.{IsPermutation}
+use Rattle.std.proofs.Common.{◌≡◌, ℕ, ◌+◌, ◌<◌, ◌≤◌, List, [], ◌∷◌, ◌++◌, Result, Ok, Err, OnErr, sym, ap, ◌∙◌, arith, append_assoc}
 use Rattle.std.proofs.lemmas.List.Sorted.{IsPermutation-append, IsPermutation-trans, IsPermutation-sym}
 use Rattle.heap_space.specs.Memory.{Memory}
 use Rattle.heap_space.specs.Extents.{Extent, Each}
-use Rattle.heap_space.proofs.ExtentLaws.{Each-map, Each-both, Each-join, Each-left}
-use Rattle.size_pages.specs.HasBlocks as pages
+use Rattle.heap_space.proofs.ExtentLaws.{Each-map, Each-join, Each-left}
 use Rattle.size_pages.specs.Headers as headers
 use Rattle.size_pages.specs.Headers.{IsHeaded, RiseByPlace, AppendsLive, HoldsMore}
 use Rattle.size_pages.proofs.FrameLaws.{IsBlock}
@@ -13,7 +11,6 @@ use Rattle.large_objects.specs.Blocks.{AreRising, ListsBlocks}
 use Rattle.large_objects.specs.Large as larges
 use Rattle.large_objects.proofs.Same.{Same, Each-same, same-permutation}
 use Rattle.large_objects.proofs.LargeLaws as large_laws
-use Rattle.old_space.specs.HasBlocks.{HasBlocks}
 use Rattle.old_space.specs.Headers.{HasHeaders, StandsWithHeaders}
 use Rattle.old_space.specs.declared.Old.{Old}
 use Rattle.old_space.proofs.PartLaws.{pages-each}

@@ -1,31 +1,26 @@
 -- Which units wait.
-use Rattle.std.proofs.Common.{inl, inr, ◌≡◌, ◌≢◌, ℕ, ◌+◌, ◌-◌, ◌*◌, ◌/◌, ◌<◌, ◌≤◌, ◌⊎◌, true, false, nat_lt, IsTrue, List, [], ◌∷◌, ◌++◌, length, length-append, map, refl, sym, ap, ◌∙◌, arith, subst, get_or, Bool}
+use Rattle.std.proofs.Common.{inl, inr, ◌≡◌, ℕ, ◌-◌, ◌*◌, ◌/◌, ◌<◌, ◌≤◌, ◌⊎◌, true, false, nat_lt, IsTrue, List, [], ◌∷◌, refl, sym, ap, ◌∙◌, arith, subst, get_or, Bool}
 use Rattle.std.specs.Prelude.{filter}
 use Rattle.std.specs.List.{Contains}
 use Rattle.std.proofs.lemmas.Bool.Decides.{nat_tests}
 use Rattle.std.proofs.lemmas.List.Elements.{Contains-append_left, Contains-append_right, Contains-append_cases}
 use Rattle.heap_space.specs.Memory.{Memory}
-use Rattle.heap_space.specs.Extents.{Extent, Each, begins_between, KeepsOutside, KeepsWords}
-use Rattle.heap_space.proofs.ExtentLaws.{Each-map, Each-both, Each-join}
-use Rattle.size_pages.specs.HasBlocks as pages
+use Rattle.heap_space.specs.Extents.{Extent, Each, begins_between}
+use Rattle.heap_space.proofs.ExtentLaws.{Each-map}
 use Rattle.size_pages.specs.PageLists.{EachPlace, IsIn}
-use Rattle.size_pages.specs.PageWords.{IsInArenas}
-use Rattle.size_pages.specs.LiveBlocks.{page_at}
 use Rattle.size_pages.specs.Calls as page_calls
 use Rattle.size_pages.specs.Calls.{page_of}
-use Rattle.size_pages.specs.declared.Pages.{Pages}
 use Rattle.large_objects.specs.Blocks.{larges_of, places_of}
 use Rattle.large_objects.specs.Large as larges
 use Rattle.large_objects.specs.declared.Large.{Large}
-use Rattle.large_objects.proofs.Same.{Same, Each-same, length-same, same-permutation}
-use Rattle.large_objects.proofs.Rising.{Each-filter, length-places}
+use Rattle.large_objects.proofs.Rising.{Each-filter}
 use Rattle.large_objects.proofs.LargeLaws.{larges-within}
-use Rattle.old_space.specs.HasBlocks.{HasBlocks, Stands, IsLive}
-use Rattle.old_space.specs.Calls.{unit_of, BeginsLive, NoneWaits, BeginsSweep}
+use Rattle.old_space.specs.HasBlocks.{HasBlocks}
+use Rattle.old_space.specs.Calls.{unit_of, BeginsLive}
 use Rattle.old_space.specs.declared.Old.{Old}
-use Rattle.old_space.proofs.PartLaws.{pages-kept, larges-kept, pages-below, waiting-below}
-use Rattle.old_space.proofs.JoinLaws.{larges-above, HasBlocks-first}
-use Rattle.old_space.proofs.GiveLaws.{outside-arenas, live-small, live-large}
+use Rattle.old_space.proofs.PartLaws.{waiting-below}
+use Rattle.old_space.proofs.JoinLaws.{HasBlocks-first}
+use Rattle.old_space.proofs.GiveLaws.{live-small, live-large}
 
 -- membership, in the words of the parts and of std
 

@@ -24,9 +24,9 @@ pub trait Sweeper {
     // What a step does: the sweeper and its space before it and after it, and the births that it freed.
     ghost steps: { Step Self };
 
-    /// The number of units that wait.
+    /// The number of units that wait, where some space is as the sweeper left it.
     fn waiting(&self) -> u64
-        ensures { result ≡ left self.now };
+        ensures { (m : Memory) → stands self.now m → result ≡ left self.now };
 
     /// Sweeps one unit, and appends the births of the objects that it freed. After the error, which
     /// is want of memory alone, as many units wait as before, and `freed` is as it was.
