@@ -11,7 +11,7 @@ use Rattle.store_model.specs.declared.line.LinkEnd.{LinkEnd}
 use Rattle.store_model.specs.declared.line.Fate.TheVariants as fate
 use Rattle.store_model.specs.Sets.{is_in}
 use Rattle.store_model.specs.Store.{Struct, Linked, Unlinked, Pending}
-use Rattle.store_model.specs.StructChecks.{is_pending}
+use Rattle.rawref_links.specs.Conditions.{is_pending}
 use Rattle.store_model.specs.Links.{fate_of, left_by, link_end, link_ends, struct_after, entry_after, is_queued_by, newly_dead}
 use Rattle.rawref_links.specs.Objects.{LinksOf, no_links, links_at, is_at_one}
 use Rattle.rawref_links.specs.Cuts.{end_of, left_of, ends_of, CutsAt, AreListed}

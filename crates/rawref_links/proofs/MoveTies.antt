@@ -10,7 +10,7 @@ use Rattle.type_table.proofs.TableLaws.{KeysRise-tail, KeysRise-cons, first_key_
 use Rattle.store_model.specs.Sets.{is_in}
 use Rattle.store_model.specs.Store.{Struct, Linked, Unlinked, Pending}
 use Rattle.store_model.specs.Structs.{with_object, with_objects}
-use Rattle.store_model.specs.StructChecks.{is_pending}
+use Rattle.rawref_links.specs.Conditions.{is_pending}
 use Rattle.rawref_links.specs.Conditions.{HasNoLink}
 use Rattle.rawref_links.specs.Cuts.{MovesAt}
 use Rattle.rawref_links.specs.Objects.{LinksOf, no_links, links_or_none, links_at, moved_to}

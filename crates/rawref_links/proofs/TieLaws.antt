@@ -9,7 +9,8 @@ use Rattle.type_table.proofs.TableLaws.{KeysRise-tail, KeysRise-with_value, valu
 use Rattle.store_model.specs.Sets.{is_in}
 use Rattle.store_model.specs.Store.{Struct, Linked, Unlinked, Pending}
 use Rattle.store_model.specs.Structs.{with_struct, p_link_of, raised, lowered}
-use Rattle.store_model.specs.StructChecks.{is_p_link_of, is_pending}
+use Rattle.store_model.specs.StructChecks.{is_p_link_of}
+use Rattle.rawref_links.specs.Conditions.{is_pending}
 use Rattle.rawref_links.specs.Conditions.{CanFall}
 use Rattle.rawref_links.specs.Objects.{LinksOf, links_or_none, links_at, with_link}
 use Rattle.rawref_links.specs.Sound.{is_p_linked_to}

@@ -1,5 +1,5 @@
--- When a count may change.
-use Rattle.std.specs.Prelude.{◌≡◌, ℕ, ◌<◌, false}
+-- When a count may change, and which structures are pending.
+use Rattle.std.specs.Prelude.{◌≡◌, ℕ, ◌<◌, Bool, true, false, Option, Some, None}
 use Rattle.std.specs.List.{All}
 use Rattle.type_table.specs.Table.{Table}
 use Rattle.store_model.specs.Store.{Struct, Linked, Unlinked, Pending}
@@ -16,6 +16,13 @@ abbrev pub CanFall : Struct → Type 0
 CanFall (Linked p light object own) = 0 < own
 CanFall (Unlinked own) = 0 < own
 CanFall Pending = ⊥
+
+-- whether what was found under a number is a pending structure
+abbrev pub is_pending : Option Struct → Bool
+is_pending None = false
+is_pending (Some (Linked p light object own)) = false
+is_pending (Some (Unlinked own)) = false
+is_pending (Some Pending) = true
 
 -- no structure is linked with the object at a place
 abbrev pub HasNoLink : Table Struct → ℕ → Type 0

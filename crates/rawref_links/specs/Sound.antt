@@ -4,7 +4,8 @@ use Rattle.type_table.specs.Table.{Table, KeysRise, value_at}
 use Rattle.store_model.specs.Sets.{is_in}
 use Rattle.store_model.specs.Store.{Struct}
 use Rattle.store_model.specs.Structs.{Structs}
-use Rattle.store_model.specs.StructChecks.{is_p_link_of, is_pending}
+use Rattle.store_model.specs.StructChecks.{is_p_link_of}
+use Rattle.rawref_links.specs.Conditions.{is_pending}
 
 -- whether what was found is linked with the object at a place by a P link
 abbrev pub is_p_linked_to : ℕ → Option Struct → Bool
