@@ -1,20 +1,20 @@
 -- What a heap stands for when an object is born in the nursery.
-use Rattle.std.proofs.Common.{◌≡◌, ◌≢◌, ℕ, zero, suc, ◌+◌, ◌^◌, ◌<◌, ◌≤◌, ◌⊎◌, true, false, IsTrue, List, [], ◌∷◌, ◌++◌, length, map, Option, Some, None, refl, sym, ap, ap₂, ◌∙◌, subst, inl, inr, arith}
+use Rattle.std.proofs.Common.{◌≡◌, ◌≢◌, ℕ, ◌+◌, ◌^◌, ◌<◌, ◌≤◌, true, false, IsTrue, List, [], ◌∷◌, ◌++◌, map, Option, Some, None, refl, sym, ap, ap₂, ◌∙◌, subst, inl, inr, arith}
 use Rattle.std.specs.Prelude.{slice_set, ◌==◌, if◌then◌else◌}
 use Rattle.std.proofs.lemmas.Bool.{ne_eqb}
-use Rattle.std.proofs.lemmas.Bool.Decides.{eqb_tells}
 use Rattle.std.proofs.lemmas.List.{map-append}
 use Rattle.type_table.specs.declared.info.TypeInfo.{TypeInfo}
-use Rattle.type_table.specs.Table.{Table, value_at}
+use Rattle.type_table.specs.Table.{value_at}
 use Rattle.type_table.specs.Words.{words_in}
-use Rattle.heap_space.specs.Places.{lies_in_one, word_at, with_run}
+use Rattle.heap_space.specs.Places.{lies_in_one}
 use Rattle.heap_space.proofs.Blocks.{lies-with_run}
 use Rattle.object_view.specs.Births.{born_words}
 use Rattle.object_view.specs.Views.{HasObject}
 use Rattle.object_view.proofs.WordLaws.{is_in-head, is_in-tail, is_in-append, is_in-before, is_in-last, updated-here, updated-other}
-use Rattle.object_view.proofs.LayoutLaws.{SameAt, KeepsLayout, keeps-same}
+use Rattle.object_view.proofs.LayoutLaws.{SameAt, keeps-same}
 use Rattle.object_view.proofs.InitLaws.{two-words, lies-part}
-use Rattle.object_view.proofs.NewbornLaws.{BornAt, IsBornAt, IsFree, born-is, birth_holds, free-unmet, length-born_words, request_of}
+use Rattle.object_view.proofs.NewbornLaws.{BornAt, IsFree, born-is, birth_holds, free-unmet, request_of}
+use Rattle.object_view.proofs.FoundLaws.{kept_words-held}
 use Rattle.object_view.proofs.WholeLaws.{born-written, has_object-born, has_object-keeps}
 use Rattle.store_model.specs.declared.line.Line.TheVariants.{Born}
 use Rattle.store_model.specs.Birth.{Request, newborn, with_birth, BirthOf, BirthOfType}
@@ -23,17 +23,17 @@ use Rattle.store_model.specs.declared.line.Line.{Line}
 use Rattle.store_model.specs.Object.{Object}
 use Rattle.store_model.specs.Store.{Store, kept_words, unsettled_words}
 use Rattle.store_model.specs.Sets.{is_in}
-use Rattle.store_model.specs.ObjectWords.{renamed, updated, words_at, Covers}
+use Rattle.store_model.specs.ObjectWords.{renamed, updated, Covers}
 use Rattle.store_model.specs.Holds.{HoldsObjects, IsPointer}
 use Rattle.heap_core.specs.Parts.{HeapParts, HeapSeen, heap_of}
 use Rattle.heap_core.specs.Told.{word_in}
-use Rattle.heap_core.specs.StandsFor.{PartsStandFor, HoldsSlots, HoldsNursery, IsWalk, AreWhole, RiseBetween, plain_store}
+use Rattle.heap_core.specs.StandsFor.{PartsStandFor, HoldsSlots, RiseBetween, plain_store}
 use Rattle.heap_core.specs.Effects.{born, HasRoom, IsFitting, FitsOf, BearsOf}
 use Rattle.heap_core.specs.Commands.{AreStanding, Bears}
 use Rattle.heap_core.proofs.Births.{rise-bounds, rise-more, is_in-named}
 use Rattle.heap_core.proofs.ToldLaws.{unsettled-none}
 use Rattle.heap_core.proofs.StandLaws.{slots-set, sound-by, walk-same}
-use Rattle.heap_core.proofs.Sums.{words-newborn, kept_words-push, walk-sum, walk-within, walk-more, sum-read}
+use Rattle.heap_core.proofs.Sums.{words-newborn, kept_words-push, walk-sum, walk-within, walk-more}
 
 -- the nursery has room for so many words behind all objects, and one more birth can be counted
 pub record FitsNursery (heap : HeapParts) (type_id : ℕ) (info : TypeInfo) (items : ℕ) : Type 0 where
@@ -47,9 +47,9 @@ pub record FitsNursery (heap : HeapParts) (type_id : ℕ) (info : TypeInfo) (ite
 pub free_at : (heap : HeapParts) (store : Store) → PartsStandFor heap store → heap.free ≡ 1 + heap.unsettled
 free_at heap store s =
     let kept : kept_words store.kept ≡ heap.unsettled =
-        sym (unsettled-none store.kept) ∙ (ap (λ (t : Store). unsettled_words store.kept t.settled) (sym s.others) ∙ sym s.unsettled) in
+    sym (unsettled-none store.kept) ∙ (ap (λ (t : Store). unsettled_words store.kept t.settled) (sym s.others) ∙ sym s.unsettled) in
     walk-sum heap.setup.types (word_in heap) 1 heap.free s.places s.nursery.walk
-    ∙ ap (λ (n : ℕ). 1 + n) (sym (sum-read heap.setup.types s.name (word_in heap) s.places) ∙ (ap kept_words (sym s.objects.reads) ∙ kept))
+    ∙ ap (λ (n : ℕ). 1 + n) (sym (kept_words-held s.objects) ∙ kept)
 
 -- the words behind all objects lie in the nursery
 pub free-lies : (heap : HeapParts) (store : Store) (n : ℕ) → PartsStandFor heap store → heap.free + n ≤ heap.setup.settings.nursery + 1
@@ -101,35 +101,35 @@ birth_stands heap store root type_id info items fits s =
     let least = free_at heap store s in
     let two = two-words info.shape items in
     let b : BornAt types (word_in new) (word_in heap) a type_id next items info =
-        born-written heap.memory.blocks types a type_id next items info fits.known fits.small lies in
+    born-written heap.memory.blocks types a type_id next items info fits.known fits.small lies in
     let below : (q at : ℕ) → IsTrue (is_in q s.places) → Covers types (word_in heap) q at → at < a = λ q at t c.
-        let within = walk-within types (word_in heap) 1 a q s.places s.nursery.walk t in omega (arith, within.1, c.1) in
+    let within = walk-within types (word_in heap) 1 a q s.places s.nursery.walk t in omega (arith, within.1, c.1) in
     let apart : (q at : ℕ) → IsTrue (is_in q s.places) → Covers types (word_in heap) q at → a ≤ at → at < a + n → ⊥ = λ q at t c l r.
-        absurd (let under = below q at t c in let no : ⊥ = omega (arith, under, l) in no) in
+    absurd (let under = below q at t c in let no : ⊥ = omega (arith, under, l) in no) in
     let unmet = free-unmet types (word_in heap) s.places a n (omega (arith, two)) apart in
     let free : IsFree types (word_in heap) s.places s.places a n = record { above = omega (arith, least); apart = apart; unmet = unmet } in
     let fresh : (q : ℕ) → IsTrue (is_in q s.places) → s.name q ≢ next = λ q t e.
-        absurd (let bounds = rise-bounds 1 next (s.name q) (map s.name s.places) s.births (is_in-named s.name q s.places t) in
-            let no : ⊥ = omega (arith, bounds.1, e) in no) in
+    absurd (let bounds = rise-bounds 1 next (s.name q) (map s.name s.places) s.births (is_in-named s.name q s.places t) in
+    let no : ⊥ = omega (arith, bounds.1, e) in no) in
     let name : ℕ → ℕ = updated s.name a next in
     let places : List ℕ = s.places ++ a ∷ [] in
     let born_next = birth_holds root s.objects free b fresh in
     let objects : HoldsObjects types (word_in new) places places name after.kept =
-        subst (λ (birth : ℕ). HoldsObjects types (word_in new) places places name (store.kept ++ newborn birth info (request_of root type_id items) ∷ [])) (sym s.next) born_next in
+    subst (λ (birth : ℕ). HoldsObjects types (word_in new) places places name (store.kept ++ newborn birth info (request_of root type_id items) ∷ [])) (sym s.next) born_next in
     let same : (q : ℕ) → IsTrue (is_in q s.places) → SameAt types (word_in new) (word_in heap) q = λ q t. record {
       same = λ x l r. b.run.elsewhere x (inl (below q x t (l, r)));
     } in
     let name-here : renamed name a ≡ Some next = rw (ne_eqb a 0 (λ e. absurd (let no : ⊥ = omega (arith, e, least) in no))) (ap Some (updated-here s.name a next a refl)) in
     let slots : HoldsSlots (slice_set heap.slots root a) places name heap.setup.settings.roots after.slots =
-        subst (λ (x : Option ℕ). HoldsSlots (slice_set heap.slots root a) places name heap.setup.settings.roots (slice_set store.slots root x))
-        (name-here ∙ ap Some (sym s.next)) (slots-set root a (slots-more a next unmet s.slots) (inr (is_in-last s.places a))) in
+    subst (λ (x : Option ℕ). HoldsSlots (slice_set heap.slots root a) places name heap.setup.settings.roots (slice_set store.slots root x))
+    (name-here ∙ ap Some (sym s.next)) (slots-set root a (slots-more a next unmet s.slots) (inr (is_in-last s.places a))) in
     let births : RiseBetween 1 (map name places) (next + 1) =
-        subst (λ (xs : List ℕ). RiseBetween 1 xs (next + 1))
-        (sym (map-append name s.places (a ∷ []) ∙ ap₂ (λ (xs : List ℕ) (x : ℕ). xs ++ x ∷ []) (map-names s.name s.places a next unmet) (updated-here s.name a next a refl)))
-        (rise-more 1 next (map s.name s.places) s.births) in
+    subst (λ (xs : List ℕ). RiseBetween 1 xs (next + 1))
+    (sym (map-append name s.places (a ∷ []) ∙ ap₂ (λ (xs : List ℕ) (x : ℕ). xs ++ x ∷ []) (map-names s.name s.places a next unmet) (updated-here s.name a next a refl)))
+    (rise-more 1 next (map s.name s.places) s.births) in
     let settled : store.settled ≡ [] = ap (λ (t : Store). t.settled) s.others in
     let others : after ≡ plain_store heap.setup.settings after.next after.kept after.slots =
-        ap (λ (t : Store). with_birth t info (request_of root type_id items)) s.others in
+    ap (λ (t : Store). with_birth t info (request_of root type_id items)) s.others in
     let size = (born-is name root b).words in
     record {
       places = places;
@@ -151,12 +151,12 @@ birth_stands heap store root type_id info items fits s =
       next_high = omega (arith, fits.next);
       births = births;
       unsettled = (
-        let object : Object = newborn store.next info (request_of root type_id items) in
-        let before : heap.unsettled ≡ kept_words store.kept = s.unsettled ∙ (ap (unsettled_words store.kept) settled ∙ unsettled-none store.kept) in
-        let added : kept_words after.kept ≡ heap.unsettled + n =
-            kept_words-push store.kept object ∙ ap₂ (λ (x y : ℕ). x + y) (sym before) (words-newborn store.next info (request_of root type_id items)) in
-        sym added ∙ (sym (unsettled-none after.kept) ∙ ap (unsettled_words after.kept) (sym settled))
-      );
+          let object : Object = newborn store.next info (request_of root type_id items) in
+          let before : heap.unsettled ≡ kept_words store.kept = s.unsettled ∙ (ap (unsettled_words store.kept) settled ∙ unsettled-none store.kept) in
+          let added : kept_words after.kept ≡ heap.unsettled + n =
+          kept_words-push store.kept object ∙ ap₂ (λ (x y : ℕ). x + y) (sym before) (words-newborn store.next info (request_of root type_id items)) in
+          sym added ∙ (sym (unsettled-none after.kept) ∙ ap (unsettled_words after.kept) (sym settled))
+          );
       limit = fits.limit;
       ranges = s.ranges;
       arena = s.arena;

@@ -5,7 +5,7 @@ use Rattle.std.specs.Prelude.{IsSome}
 use Rattle.store_model.specs.Store.{Store}
 use Rattle.store_model.specs.Look.{look}
 use Rattle.heap_core.specs.declared.heap.State.{State}
-use Rattle.heap_core.specs.declared.heap.State.TheVariants.{Closed, Started, Spent}
+use Rattle.heap_core.specs.declared.heap.State.TheVariants.{Closed, Spent}
 use Rattle.heap_core.specs.Parts.{HeapParts, HeapSeen, heap_of, spent_heap}
 use Rattle.heap_core.specs.Seen.{seen}
 use Rattle.heap_core.specs.StandsFor.{StandsFor, StandsForIf, PartsStandFor}

@@ -1,6 +1,6 @@
 -- What each call of a heap does to the stores that it stands for.
-use Rattle.std.proofs.Common.{◌≡◌, ◌≢◌, ℕ, zero, suc, ◌+◌, ◌<◌, ◌≤◌, true, false, IsTrue, List, [], ◌∷◌, ◌++◌, length, map, replicate, Option, Some, None, Ok, Err, refl, sym, ap, ◌∙◌, subst, inl, inr, arith, get_or, lit<}
-use Rattle.std.specs.Prelude.{slice_get, slice_index, slice_set, option_and_then, ◌==◌, if◌then◌else◌}
+use Rattle.std.proofs.Common.{◌≡◌, ◌≢◌, ℕ, zero, suc, IsTrue, List, [], ◌∷◌, length, map, replicate, Option, Some, None, refl, sym, ap, ◌∙◌, subst, inl, inr, arith, lit<}
+use Rattle.std.specs.Prelude.{slice_index, option_and_then, ◌==◌}
 use Rattle.std.proofs.lemmas.Bool.{ne_eqb, eq-eqb}
 use Rattle.std.proofs.lemmas.Bool.Decides.{eqb_tells, nat_tests}
 use lib.ListN.{length-replicate}
@@ -8,9 +8,10 @@ use Rattle.heap_space.specs.Places.{lies_in_one, zeros_at}
 use Rattle.type_table.specs.declared.info.TypeInfo.{TypeInfo}
 use Rattle.type_table.specs.Table.{Table}
 use Rattle.object_view.specs.Views.{HasObject}
-use Rattle.object_view.proofs.WordLaws.{is_in-cases, is_in-nil, get_or-words_from}
+use Rattle.object_view.proofs.WordLaws.{is_in-cases, is_in-nil}
 use Rattle.object_view.proofs.LayoutLaws.{laid_out}
-use Rattle.store_model.specs.declared.command.Command.TheVariants.{Put, Get, Link, Load, MoveRoot, DropRoot, Same}
+use Rattle.object_view.proofs.FoundLaws.{int-from, ref-from}
+use Rattle.store_model.specs.declared.command.Command.TheVariants.{Put, Link, Load}
 use Rattle.store_model.specs.declared.settings.Settings.{Settings}
 use Rattle.store_model.specs.Object.{Object}
 use Rattle.store_model.specs.Store.{Store, object_at, empty_store}
@@ -18,17 +19,17 @@ use Rattle.store_model.specs.Sets.{is_in}
 use Rattle.store_model.specs.Slots.{held, put_in_slot, is_same, ints_of, refs_of, ref_in}
 use Rattle.store_model.specs.Steps.{int_at, ref_at, put_int, put_ref}
 use Rattle.store_model.specs.Checks.{AreInRange}
-use Rattle.store_model.specs.ObjectWords.{words_from, renamed, object_from, layout_at}
+use Rattle.store_model.specs.ObjectWords.{renamed, object_from}
 use Rattle.store_model.specs.Holds.{HoldsObjects, IsPointer}
 use Rattle.heap_core.specs.Parts.{HeapParts, heap_of, started_parts}
 use Rattle.heap_core.specs.Told.{word_in, place_in}
-use Rattle.heap_core.specs.StandsFor.{PartsStandFor, HoldsSlots, plain_store}
+use Rattle.heap_core.specs.StandsFor.{PartsStandFor, HoldsSlots}
 use Rattle.heap_core.specs.Effects.{with_slot, with_word_at, int_place, ref_place, layout_in, birth_read}
-use Rattle.heap_core.specs.Commands.{AreStanding, AreReady, Changes}
-use Rattle.heap_core.proofs.SoundLaws.{pointer-some, refs-from}
+use Rattle.heap_core.specs.Commands.{AreReady, Changes}
+use Rattle.heap_core.proofs.SoundLaws.{pointer-some}
 use Rattle.heap_core.proofs.ToldLaws.{held-named, slot-pointer, object-held}
 use Rattle.heap_core.proofs.StandLaws.{slot_stands, in_slot, put_stands, link_stands, sound-by}
-use Rattle.heap_core.proofs.Ready.{HasInt, HasRef, put_ready, get_ready, link_ready, load_ready}
+use Rattle.heap_core.proofs.Ready.{HasInt, HasRef, put_ready, link_ready, load_ready}
 
 -- a slot holds the object whose place it has
 slot-holds : (heap : HeapParts) (store : Store) (root : ℕ) (s : PartsStandFor heap store) → held store.slots root ≡ renamed s.name (place_in heap root)
@@ -41,25 +42,13 @@ object-found heap store root s full =
     ap (option_and_then (object_at store.kept)) (slot-holds heap store root s)
     ∙ (object-held s.objects (place_in heap root) (slot-pointer heap.slots s.places root s.slots.pointers) ∙ rw (ne_eqb (place_in heap root) 0 full) refl)
 
-ints-from : (types : Table TypeInfo) (name word : ℕ → ℕ) (p : ℕ) → (object_from types name word p).ints
-    ≡ words_from word (layout_at types word p).int_start (layout_at types word p).int_count
-unfolding object_from
-ints-from types name word p = refl
-
 -- a whole number of the object in a slot
 pub int_is : (heap : HeapParts) (store : Store) (root item : ℕ) → HasInt heap root item → PartsStandFor heap store
     → word_in heap (int_place heap root item) ≡ int_at store root item
 int_is heap store root item has s =
     let word = word_in heap in let p = place_in heap root in let layout = layout_in heap root in
     sym (ap (λ (o : Option Object). slice_index (ints_of o) item) (object-found heap store root s has.full)
-        ∙ (ap (λ (xs : List ℕ). slice_index xs item) (ints-from heap.setup.types s.name word p)
-        ∙ get_or-words_from word layout.int_start item layout.int_count has.item_in))
-
-ref-read : (name word : ℕ → ℕ) (from n item : ℕ) → item < n → ref_in (map (renamed name) (words_from word from n)) item ≡ renamed name (word (from + item))
-ref-read name word from zero item l = absurd (omega arith)
-ref-read name word from (suc n) zero l = ap (λ (p : ℕ). renamed name (word p)) (omega arith)
-ref-read name word from (suc n) (suc item) l =
-    ref-read name word (from + 1) n item (omega (arith, l)) ∙ ap (λ (p : ℕ). renamed name (word p)) (omega arith)
+    ∙ int-from heap.setup.types s.name word p item has.item_in)
 
 -- a reference of the object in a slot
 pub ref_is : (heap : HeapParts) (store : Store) (root item : ℕ) → HasRef heap root item → (s : PartsStandFor heap store)
@@ -67,8 +56,7 @@ pub ref_is : (heap : HeapParts) (store : Store) (root item : ℕ) → HasRef hea
 ref_is heap store root item has s =
     let word = word_in heap in let p = place_in heap root in let layout = layout_in heap root in
     ap (λ (o : Option Object). ref_in (refs_of o) item) (object-found heap store root s has.full)
-    ∙ (ap (λ (xs : List (Option ℕ)). ref_in xs item) (refs-from heap.setup.types s.name word p)
-    ∙ ref-read s.name word layout.ref_start layout.ref_count item has.item_in)
+    ∙ ref-from heap.setup.types s.name word p item has.item_in
 
 -- it is nil or the place of an object
 pub ref-pointer : (heap : HeapParts) (store : Store) (root item : ℕ) → HasRef heap root item → (s : PartsStandFor heap store)
@@ -101,15 +89,23 @@ pub link_changes : (heap : HeapParts) (root item from : ℕ) → AreReady heap (
 link_changes heap root item from ready =
     let has = link_ready heap root item from ready in
     let new : HeapParts = with_word_at heap (ref_place heap root item) (place_in heap from) in
-    record { setup = refl; same_spent = refl; stands = λ store s.
-        subst (λ (b : Option ℕ). PartsStandFor new (put_ref store root item b)) (sym (slot-holds heap store from s))
-        (link_stands heap store root item (place_in heap from) s has.full has.item_in (slot-pointer heap.slots s.places from s.slots.pointers)) }
+    record {
+      setup = refl;
+      same_spent = refl;
+      stands = λ store s.
+          subst (λ (b : Option ℕ). PartsStandFor new (put_ref store root item b)) (sym (slot-holds heap store from s))
+          (link_stands heap store root item (place_in heap from) s has.full has.item_in (slot-pointer heap.slots s.places from s.slots.pointers));
+    }
 
 pub move_changes : (heap : HeapParts) (to from : ℕ)
     → Changes (heap_of heap) (heap_of (with_slot heap to (place_in heap from))) (λ store. put_in_slot store to (held store.slots from))
-move_changes heap to from = record { setup = refl; same_spent = refl; stands = λ store s.
-    subst (λ (b : Option ℕ). PartsStandFor (with_slot heap to (place_in heap from)) (put_in_slot store to b)) (sym (slot-holds heap store from s))
-    (slot_stands heap store to (place_in heap from) s (slot-pointer heap.slots s.places from s.slots.pointers)) }
+move_changes heap to from = record {
+  setup = refl;
+  same_spent = refl;
+  stands = λ store s.
+      subst (λ (b : Option ℕ). PartsStandFor (with_slot heap to (place_in heap from)) (put_in_slot store to b)) (sym (slot-holds heap store from s))
+      (slot_stands heap store to (place_in heap from) s (slot-pointer heap.slots s.places from s.slots.pointers));
+}
 
 pub drop_changes : (heap : HeapParts) (root : ℕ) → Changes (heap_of heap) (heap_of (with_slot heap root 0)) (λ store. put_in_slot store root None)
 drop_changes heap root = record { setup = refl; same_spent = refl; stands = λ store s. slot_stands heap store root 0 s (inl refl) }
@@ -119,9 +115,13 @@ pub load_changes : (heap : HeapParts) (to root item : ℕ) → AreReady heap (Lo
 load_changes heap to root item ready =
     let has = (load_ready heap to root item ready).1 in
     let place = word_in heap (ref_place heap root item) in
-    record { setup = refl; same_spent = refl; stands = λ store s.
-        subst (λ (b : Option ℕ). PartsStandFor (with_slot heap to place) (put_in_slot store to b)) (sym (ref_is heap store root item has s))
-        (slot_stands heap store to place s (ref-pointer heap store root item has s)) }
+    record {
+      setup = refl;
+      same_spent = refl;
+      stands = λ store s.
+          subst (λ (b : Option ℕ). PartsStandFor (with_slot heap to place) (put_in_slot store to b)) (sym (ref_is heap store root item has s))
+          (slot_stands heap store to place s (ref-pointer heap store root item has s));
+    }
 
 -- the birth that is read where a reference leads
 pub load_is : (heap : HeapParts) (store : Store) (to root item : ℕ) → AreReady heap (Load to root item) → PartsStandFor heap store

@@ -1,4 +1,3 @@
-pub mod Found
 pub mod Births
 pub mod SoundLaws
 pub mod ToldLaws

@@ -1,6 +1,6 @@
 -- What is known of the parts of a heap where a command is not refused.
-use Rattle.std.proofs.Common.{◌≡◌, ◌≢◌, ℕ, ◌+◌, ◌<◌, ◌≤◌, Bool, true, false, cond, IsTrue, List, [], ◌∷◌, ◌++◌, length, Option, Some, None, refl, sym, ap, ◌∙◌, subst, arith, inl, inr}
-use Rattle.std.specs.Prelude.{not, nat_lt, nat_le, ◌||◌, ◌==◌, if◌then◌else◌}
+use Rattle.std.proofs.Common.{◌≡◌, ◌≢◌, ℕ, ◌+◌, ◌<◌, ◌≤◌, Bool, true, false, cond, ◌++◌, length, Option, Some, None, refl, sym, subst, arith, inl, inr}
+use Rattle.std.specs.Prelude.{not, nat_lt, nat_le, ◌||◌}
 use Rattle.std.proofs.lemmas.Bool.{ltb-false, leb-false}
 use Rattle.std.proofs.lemmas.Bool.Decides.{eqb_tells}
 use Rattle.type_table.specs.declared.info.TypeInfo.{TypeInfo}
@@ -8,16 +8,15 @@ use Rattle.type_table.specs.Table.{Table, value_at}
 use Rattle.store_model.specs.declared.command.Command.TheVariants.{NewFixed, NewArray, Put, Get, Link, Load, MoveRoot, DropRoot}
 use Rattle.store_model.specs.declared.kind.Kind.{Kind}
 use Rattle.store_model.specs.declared.item.Reason.{Reason}
-use Rattle.store_model.specs.declared.item.Reason.TheVariants.{NotBuilt, NoRoot, NoType, WrongShape, NilRoot, NoItem, Range}
+use Rattle.store_model.specs.declared.item.Reason.TheVariants.{NotBuilt, NoRoot, WrongShape, NoItem, Range}
 use Rattle.store_model.specs.Range.{is_above, is_above_ids, is_above_items}
 use Rattle.store_model.specs.Shapes.{holds_ints, holds_refs, is_fixed_shape, is_array_shape}
-use Rattle.store_model.specs.Checks.{first_reason, slots_checks, born_checks, room_checks, type_words, int_checks, ref_checks}
+use Rattle.store_model.specs.Checks.{first_reason, born_checks, room_checks, type_words, int_checks, ref_checks}
 use Rattle.store_model.specs.Setup.{young_words}
 use Rattle.type_table.specs.declared.info.Shape.{Shape}
 use Rattle.type_table.specs.Words.{words_in}
 use Rattle.heap_core.specs.Parts.{HeapParts, HeapSeen, heap_of}
 use Rattle.heap_core.specs.Told.{word_in, place_in, kind_from, kind_at}
-use Rattle.heap_core.specs.StandsFor.{PartsStandFor}
 use Rattle.heap_core.specs.Effects.{HasObjectIn, layout_in, FitsOf, IsFitting}
 use Rattle.heap_core.specs.Commands.{AreStanding, AreReady, CanDo, CanBear}
 use Rattle.heap_core.proofs.StandLaws.{in_slot}

@@ -1,8 +1,7 @@
 -- A store that the parts of a heap stand for is one that commands can leave.
-use Rattle.std.proofs.Common.{◌≡◌, ◌≢◌, ℕ, zero, suc, ◌+◌, ◌<◌, ◌≤◌, ◌⊎◌, true, false, IsTrue, ◌==◌, List, [], ◌∷◌, ◌++◌, map, nat_eq, Option, Some, None, refl, sym, ap, ◌∙◌, subst, inl, inr, arith, append-nil}
-use Rattle.std.specs.Prelude.{filter_map, if◌then◌else◌, is_some, IsFalse}
+use Rattle.std.proofs.Common.{◌≡◌, ◌≢◌, ℕ, zero, suc, ◌+◌, ◌<◌, IsTrue, List, [], ◌∷◌, map, Option, Some, None, refl, sym, ap, ◌∙◌, subst, inl, inr, arith, append-nil}
+use Rattle.std.specs.Prelude.{filter_map}
 use Rattle.std.specs.List.{IsDistinct}
-use Rattle.std.proofs.lemmas.Bool.{ne_eqb, eq-eqb}
 use Rattle.std.proofs.lemmas.Bool.Decides.{eqb_tells}
 use Rattle.type_table.specs.declared.info.TypeInfo.{TypeInfo}
 use Rattle.type_table.specs.declared.info.Shape.{Shape}
@@ -10,31 +9,22 @@ use Rattle.type_table.specs.declared.info.Shape.TheVariants.{Fixed, IntArray, Re
 use Rattle.type_table.specs.Table.{Table}
 use Rattle.store_model.specs.declared.settings.Settings.{Settings}
 use Rattle.store_model.specs.Object.{Object, referents}
-use Rattle.store_model.specs.Store.{Store, object_at}
+use Rattle.store_model.specs.Store.{object_at}
 use Rattle.store_model.specs.Sets.{is_in}
 use Rattle.store_model.specs.Roots.{is_kept, referents_in, target_in, roots_of}
-use Rattle.store_model.specs.Sound.{IsSound, AreKept, AreFieldsKept, births_in}
+use Rattle.store_model.specs.Sound.{IsSound, AreFieldsKept, births_in}
 use Rattle.store_model.specs.ObjectWords.{words_from, renamed, object_from, layout_at, info_at, target_of}
 use Rattle.store_model.specs.Holds.{HoldsObjects, IsPointer}
 use Rattle.object_view.proofs.WordLaws.{is_in-head, is_in-tail, is_in-cases, is_in-nil}
 use Rattle.object_view.proofs.LayoutLaws.{laid_out, weak-at, birth-from}
+use Rattle.object_view.proofs.FoundLaws.{StandsAt, found-at, stands-found, refs-from}
 use Rattle.heap_core.specs.StandsFor.{HoldsSlots, RiseBetween, plain_store}
-use Rattle.heap_core.proofs.Found.{AreRead, ReadAt, object_at-read, found-at}
 use Rattle.heap_core.proofs.Births.{rise-end, rise-bounds, rise-differ, map-births}
-
--- the objects of a heap are read at their places
-pub are_read : {types : Table TypeInfo} {word name : ℕ → ℕ} {met places : List ℕ} {kept : List Object}
-    → HoldsObjects types word met places name kept → AreRead (object_from types name word) name places
-are_read {types = types} {word = word} {name = name} holds = record {
-  births = λ p t. birth-from types name word p ∙ sym (holds.named p t);
-  differ = holds.differ;
-}
 
 -- an object at a place is kept by its name
 pub is_kept-at : {types : Table TypeInfo} {word name : ℕ → ℕ} {met places : List ℕ} {kept : List Object}
     → HoldsObjects types word met places name kept → (p : ℕ) → IsTrue (is_in p places) → IsTrue (is_kept kept (name p))
-is_kept-at {types = types} {word = word} {name = name} {places = places} holds p t =
-    rw (holds.reads, object_at-read (object_from types name word) name places p (are_read holds) t) refl
+is_kept-at holds p t = rw (found-at p holds t) refl
 
 -- what is read at a place where references are, and is not nil, is the name of a place
 pub renamed-some : (name : ℕ → ℕ) (place birth : ℕ) → renamed name place ≡ Some birth → (place ≢ 0) × (birth ≡ name place)
@@ -75,15 +65,15 @@ comes_from word name from (suc n) birth t =
     let zeroth : word (from + 0) ≡ word from = ap word (omega arith) in
     elim (eqb_tells (word from) 0) [
       | inl e ↦
-        let none : renamed name (word from) ≡ None = rw e.0 refl in
-        one-later (comes_from word name (from + 1) n birth (subst (λ (xs : List ℕ). IsTrue (is_in birth xs)) (nothing-first (renamed name (word from)) rest none) t))
+          let none : renamed name (word from) ≡ None = rw e.0 refl in
+          one-later (comes_from word name (from + 1) n birth (subst (λ (xs : List ℕ). IsTrue (is_in birth xs)) (nothing-first (renamed name (word from)) rest none) t))
       | inr e ↦
-        let some : renamed name (word from) ≡ Some (name (word from)) = rw e.0 refl in
-        elim (is_in-cases birth (name (word from)) (filter_map (λ x. x) rest)
-            (subst (λ (xs : List ℕ). IsTrue (is_in birth xs)) (something-first (renamed name (word from)) (name (word from)) rest some) t)) [
-          | inl is ↦ record { at = 0; within = omega arith; some = λ z. e.1 (sym zeroth ∙ z); named = is ∙ ap name (sym zeroth) }
-          | inr u ↦ one-later (comes_from word name (from + 1) n birth u)
-        ]
+          let some : renamed name (word from) ≡ Some (name (word from)) = rw e.0 refl in
+          elim (is_in-cases birth (name (word from)) (filter_map (λ x. x) rest)
+          (subst (λ (xs : List ℕ). IsTrue (is_in birth xs)) (something-first (renamed name (word from)) (name (word from)) rest some) t)) [
+            | inl is ↦ record { at = 0; within = omega arith; some = λ z. e.1 (sym zeroth ∙ z); named = is ∙ ap name (sym zeroth) }
+            | inr u ↦ one-later (comes_from word name (from + 1) n birth u)
+          ]
     ]
 
 -- a pointer that is not nil is a place
@@ -91,15 +81,11 @@ pub pointer-some : (met : List ℕ) (place : ℕ) → IsPointer met place → pl
 pointer-some met place (inl e) ne = absurd (ne e)
 pointer-some met place (inr t) ne = t
 
-pub refs-from : (types : Table TypeInfo) (name word : ℕ → ℕ) (p : ℕ) → (object_from types name word p).refs
-    ≡ map (renamed name) (words_from word (layout_at types word p).ref_start (layout_at types word p).ref_count)
-unfolding object_from
-refs-from types name word p = refl
-
-target-from : (types : Table TypeInfo) (name word : ℕ → ℕ) (p : ℕ) → (object_from types name word p).target
+-- the target of the object at a place, if its shape has one
+target-read : (types : Table TypeInfo) (name word : ℕ → ℕ) (p : ℕ) → (object_from types name word p).target
     ≡ target_of (info_at types word p).shape (renamed name (word (layout_at types word p).ref_start))
 unfolding object_from
-target-from types name word p = refl
+target-read types name word p = refl
 
 some-target : (shape : Shape) (found : Option ℕ) (t : ℕ) → target_of shape found ≡ Some t → (shape ≡ Weak) × (found ≡ Some t)
 some-target (Fixed a b) found t e = absurd (let no : ⊥ = cc in no)
@@ -108,24 +94,24 @@ some-target RefArray found t e = absurd (let no : ⊥ = cc in no)
 some-target Weak found t e = (refl, e)
 
 kept-reference : {types : Table TypeInfo} {word name : ℕ → ℕ} {places : List ℕ} {kept : List Object}
-    → HoldsObjects types word places places name kept → (o : Object) (x y : ℕ) → ReadAt (object_from types name word) name places x o
+    → HoldsObjects types word places places name kept → (o : Object) (y : ℕ) → StandsAt types name word places o
     → IsTrue (is_in y (referents o)) → IsTrue (is_kept kept y)
-kept-reference {types = types} {word = word} {name = name} {places = places} {kept = kept} holds o x y at t =
+kept-reference {types = types} {word = word} {name = name} {places = places} {kept = kept} holds o y at t =
     let layout = layout_at types word at.place in
     let refs : o.refs ≡ map (renamed name) (words_from word layout.ref_start layout.ref_count) =
-        ap (λ (u : Object). u.refs) at.is ∙ refs-from types name word at.place in
+    ap (λ (u : Object). u.refs) at.is ∙ refs-from types name word at.place in
     let comes = comes_from word name layout.ref_start layout.ref_count y (subst (λ (rs : List (Option ℕ)). IsTrue (is_in y (filter_map (λ r. r) rs))) refs t) in
     let few : comes.at < layout.pointer_count = omega (arith, comes.within, (laid_out types word at.place).refs) in
     let there = pointer-some places (word (layout.ref_start + comes.at)) (holds.closed at.place comes.at at.there few) comes.some in
     subst (λ (b : ℕ). IsTrue (is_kept kept b)) (sym comes.named) (is_kept-at holds (word (layout.ref_start + comes.at)) there)
 
 kept-target : {types : Table TypeInfo} {word name : ℕ → ℕ} {places : List ℕ} {kept : List Object}
-    → HoldsObjects types word places places name kept → (o : Object) (x t : ℕ) → ReadAt (object_from types name word) name places x o
+    → HoldsObjects types word places places name kept → (o : Object) (t : ℕ) → StandsAt types name word places o
     → o.target ≡ Some t → IsTrue (is_kept kept t)
-kept-target {types = types} {word = word} {name = name} {places = places} {kept = kept} holds o x t at is =
+kept-target {types = types} {word = word} {name = name} {places = places} {kept = kept} holds o t at is =
     let layout = layout_at types word at.place in
     let read : target_of (info_at types word at.place).shape (renamed name (word layout.ref_start)) ≡ Some t =
-        sym (target-from types name word at.place) ∙ (ap (λ (u : Object). u.target) (sym at.is) ∙ is) in
+    sym (target-read types name word at.place) ∙ (ap (λ (u : Object). u.target) (sym at.is) ∙ is) in
     let weak = some-target (info_at types word at.place).shape (renamed name (word layout.ref_start)) t read in
     let named = renamed-some name (word layout.ref_start) t weak.1 in
     let few : 0 < layout.pointer_count = omega (arith, (weak-at types word at.place weak.0).0) in
@@ -137,15 +123,15 @@ references-found : {types : Table TypeInfo} {word name : ℕ → ℕ} {places : 
     → HoldsObjects types word places places name kept → (x y : ℕ) (found : Option Object) → object_at kept x ≡ found
     → IsTrue (is_in y (referents_in found)) → IsTrue (is_kept kept y)
 references-found holds x y None e t = absurd (is_in-nil y t)
-references-found {types = types} {word = word} {name = name} {places = places} holds x y (Some o) e t =
-    kept-reference holds o x y (found-at (object_from types name word) name places x o (are_read holds) (ap (λ (os : List Object). object_at os x) (sym holds.reads) ∙ e)) t
+references-found holds x y (Some o) e t =
+    kept-reference holds o y (stands-found x o holds e) t
 
 target-found : {types : Table TypeInfo} {word name : ℕ → ℕ} {places : List ℕ} {kept : List Object}
     → HoldsObjects types word places places name kept → (x t : ℕ) (found : Option Object) → object_at kept x ≡ found
     → target_in found ≡ Some t → IsTrue (is_kept kept t)
 target-found holds x t None e is = absurd (let no : ⊥ = cc in no)
-target-found {types = types} {word = word} {name = name} {places = places} holds x t (Some o) e is =
-    kept-target holds o x t (found-at (object_from types name word) name places x o (are_read holds) (ap (λ (os : List Object). object_at os x) (sym holds.reads) ∙ e)) is
+target-found holds x t (Some o) e is =
+    kept-target holds o t (stands-found x o holds e) is
 
 -- references and targets are kept
 pub fields_kept : {types : Table TypeInfo} {word name : ℕ → ℕ} {places : List ℕ} {kept : List Object}
@@ -163,17 +149,17 @@ slot-kept holds [] pointers x t = absurd (is_in-nil x t)
 slot-kept {name = name} {places = places} {kept = kept} holds (p ∷ slots) pointers x t =
     let rest : List (Option ℕ) = map (renamed name) slots in
     let onward : IsTrue (is_in x (filter_map (λ s. s) rest)) → IsTrue (is_kept kept x) =
-        slot-kept holds slots (λ q u. pointers q (is_in-tail q p slots u)) x in
+    slot-kept holds slots (λ q u. pointers q (is_in-tail q p slots u)) x in
     elim (eqb_tells p 0) [
       | inl e ↦
-        let none : renamed name p ≡ None = rw e.0 refl in
-        onward (subst (λ (xs : List ℕ). IsTrue (is_in x xs)) (nothing-first (renamed name p) rest none) t)
+          let none : renamed name p ≡ None = rw e.0 refl in
+          onward (subst (λ (xs : List ℕ). IsTrue (is_in x xs)) (nothing-first (renamed name p) rest none) t)
       | inr e ↦
-        let some : renamed name p ≡ Some (name p) = rw e.0 refl in
-        elim (is_in-cases x (name p) (filter_map (λ s. s) rest) (subst (λ (xs : List ℕ). IsTrue (is_in x xs)) (something-first (renamed name p) (name p) rest some) t)) [
-          | inl is ↦ subst (λ (b : ℕ). IsTrue (is_kept kept b)) (sym is) (is_kept-at holds p (pointer-some places p (pointers p (is_in-head p slots)) e.1))
-          | inr u ↦ onward u
-        ]
+          let some : renamed name p ≡ Some (name p) = rw e.0 refl in
+          elim (is_in-cases x (name p) (filter_map (λ s. s) rest) (subst (λ (xs : List ℕ). IsTrue (is_in x xs)) (something-first (renamed name p) (name p) rest some) t)) [
+            | inl is ↦ subst (λ (b : ℕ). IsTrue (is_kept kept b)) (sym is) (is_kept-at holds p (pointer-some places p (pointers p (is_in-head p slots)) e.1))
+            | inr u ↦ onward u
+          ]
     ]
 
 -- nothing is an element of the empty list
@@ -188,11 +174,11 @@ pub sound_of : {types : Table TypeInfo} {word name : ℕ → ℕ} {places : List
 unfolding IsDistinct
 sound_of {types = types} {word = word} {name = name} {places = places} settings next kept slots stored holds in_slots rise =
     let births_are : map (λ (o : Object). o.birth) kept ≡ map name places =
-        ap (map (λ (o : Object). o.birth)) holds.reads
-        ∙ map-births (λ (o : Object). o.birth) (object_from types name word) name places (are_read holds).births in
+    ap (map (λ (o : Object). o.birth)) holds.reads
+    ∙ map-births (λ (o : Object). o.birth) (object_from types name word) name places (λ p t. birth-from types name word p ∙ sym (holds.named p t)) in
     let all_births : births_in (plain_store settings next kept stored) ≡ map name places = append-nil (map (λ (o : Object). o.birth) kept) ∙ births_are in
     let slot_births : roots_of (plain_store settings next kept stored) ≡ filter_map (λ s. s) (map (renamed name) slots) =
-        append-nil (filter_map (λ (s : Option ℕ). s) stored) ∙ ap (filter_map (λ (s : Option ℕ). s)) in_slots.named in
+    append-nil (filter_map (λ (s : Option ℕ). s) stored) ∙ ap (filter_map (λ (s : Option ℕ). s)) in_slots.named in
     record {
       fields = fields_kept holds;
       settled = λ x t. none x t;

@@ -1,33 +1,31 @@
 -- What a heap stands for when a slot or a word of an object changes.
-use Rattle.std.proofs.Common.{◌≡◌, ◌≢◌, ℕ, zero, suc, ◌+◌, ◌<◌, ◌≤◌, ◌⊎◌, true, false, IsTrue, ◌==◌, List, [], ◌∷◌, length, map, Option, Some, None, refl, sym, ap, ap₂, ◌∙◌, subst, inl, inr, arith}
-use Rattle.std.specs.Prelude.{slice_set, slice_index_or, if◌then◌else◌, IsSome}
+use Rattle.std.proofs.Common.{◌≡◌, ◌≢◌, ℕ, zero, suc, ◌+◌, ◌<◌, ◌⊎◌, true, IsTrue, List, [], ◌∷◌, map, Option, Some, refl, sym, ap, ◌∙◌, subst, inl, inr, arith}
+use Rattle.std.specs.Prelude.{slice_set, IsSome}
 use Rattle.std.proofs.lemmas.List.{length-set, map-set}
 use Rattle.std.proofs.lemmas.Bool.{ne_eqb}
-use Rattle.std.proofs.lemmas.Bool.Decides.{eqb_tells}
 use Rattle.type_table.specs.declared.info.TypeInfo.{TypeInfo}
 use Rattle.type_table.specs.Table.{Table, value_at}
-use Rattle.heap_space.specs.Places.{lies_in_one, word_at, with_word, has}
+use Rattle.heap_space.specs.Places.{lies_in_one, word_at, has}
 use Rattle.heap_space.specs.Memory.{Memory}
 use Rattle.heap_space.proofs.Blocks.{lies-with_word}
-use Rattle.object_view.specs.Views.{HasObject}
-use Rattle.object_view.proofs.WordLaws.{is_in-head, is_in-tail, is_in-cases, is_in-nil}
+use Rattle.object_view.proofs.WordLaws.{is_in-head, is_in-tail, is_in-cases}
 use Rattle.object_view.proofs.LayoutLaws.{KeepsLayout, laid_out}
 use Rattle.object_view.proofs.SpaceLaws.{word_at-written, lies-at}
-use Rattle.object_view.proofs.ChangeLaws.{Changes, each-keeps, changes-updated}
+use Rattle.object_view.proofs.ChangeLaws.{each-keeps, changes-updated}
 use Rattle.object_view.proofs.FieldLaws.{int_holds, ref_holds}
 use Rattle.store_model.specs.declared.settings.Settings.{Settings}
 use Rattle.store_model.specs.Object.{Object}
-use Rattle.store_model.specs.Store.{Store, kept_words, unsettled_words}
+use Rattle.store_model.specs.Store.{Store, unsettled_words}
 use Rattle.store_model.specs.Sets.{is_in}
 use Rattle.store_model.specs.Slots.{held, put_in_slot, changed_at, with_int, with_ref}
-use Rattle.store_model.specs.Steps.{put_int, put_ref}
+use Rattle.store_model.specs.Steps.{put_int}
 use Rattle.store_model.specs.Sound.{IsSound}
 use Rattle.store_model.specs.Layout.{Layout}
-use Rattle.store_model.specs.ObjectWords.{renamed, updated, type_id_at, layout_at, words_at}
+use Rattle.store_model.specs.ObjectWords.{renamed, updated, words_at}
 use Rattle.store_model.specs.Holds.{HoldsObjects, IsPointer}
 use Rattle.heap_core.specs.Parts.{HeapParts}
 use Rattle.heap_core.specs.Told.{word_in, place_in}
-use Rattle.heap_core.specs.StandsFor.{PartsStandFor, HoldsSlots, HoldsNursery, IsWalk, AreWhole, RiseBetween, plain_store}
+use Rattle.heap_core.specs.StandsFor.{PartsStandFor, HoldsSlots, IsWalk, AreWhole, RiseBetween, plain_store}
 use Rattle.heap_core.specs.Effects.{with_slot, with_word_at, int_place, ref_place, layout_in}
 use Rattle.heap_core.proofs.SoundLaws.{sound_of, pointer-some}
 use Rattle.heap_core.proofs.ToldLaws.{held-named, slot-pointer, unsettled-none}
@@ -75,7 +73,7 @@ slot_stands heap store root place s pointer =
     let after : Store = put_in_slot store root (renamed s.name place) in
     let in_slots = slots-set root place s.slots pointer in
     let others : after ≡ plain_store heap.setup.settings after.next after.kept after.slots =
-        ap (λ (t : Store). put_in_slot t root (renamed s.name place)) s.others in
+    ap (λ (t : Store). put_in_slot t root (renamed s.name place)) s.others in
     record {
       places = s.places;
       name = s.name;
@@ -102,9 +100,11 @@ pub walk-same : (types : Table TypeInfo) (v w : ℕ → ℕ) (from end : ℕ) (p
     → IsWalk types w from places end → IsWalk types v from places end
 walk-same types v w from end [] same walk = walk
 walk-same types v w from end (p ∷ places) same walk =
-    let words : words_at types w p ≡ words_at types v p = sym (ap (λ (l : Layout). l.words) (same p (is_in-head p places)).layout_stays) in
-    (walk.0, subst (λ (n : ℕ). IsWalk types v (from + n) places end) words
-        (walk-same types v w (from + words_at types w p) end places (λ q t. same q (is_in-tail q p places t)) walk.1))
+    let words : words_at types w p ≡ words_at types v p = sym (ap (λ (l : Layout). l.words) (same p (is_in-head p places)).layout_stays) in (
+      walk.0,
+      subst (λ (n : ℕ). IsWalk types v (from + n) places end) words
+          (walk-same types v w (from + words_at types w p) end places (λ q t. same q (is_in-tail q p places t)) walk.1),
+    )
 
 -- objects stand whole where blocks and layouts are the same
 pub whole-same : (old new : Memory) (types : Table TypeInfo) (places : List ℕ) → SameLayouts types (word_at new.blocks) (word_at old.blocks) places
@@ -128,12 +128,12 @@ word_stands heap store s at value birth change there same keeps holds =
     let types = heap.setup.types in
     let words : updated (word_in heap) at value ≡ word_in new = sym (word_at-written heap.memory.blocks at value there) in
     let objects : HoldsObjects types (word_in new) s.places s.places s.name after.kept =
-        subst (λ (w : ℕ → ℕ). HoldsObjects types w s.places s.places s.name after.kept) words holds in
+    subst (λ (w : ℕ → ℕ). HoldsObjects types w s.places s.places s.name after.kept) words holds in
     let layouts : SameLayouts types (word_in new) (word_in heap) s.places =
-        subst (λ (w : ℕ → ℕ). SameLayouts types w (word_in heap) s.places) words same in
+    subst (λ (w : ℕ → ℕ). SameLayouts types w (word_in heap) s.places) words same in
     let lies : (a n : ℕ) → lies_in_one new.memory.blocks a n ≡ lies_in_one heap.memory.blocks a n = λ a n. lies-with_word heap.memory.blocks at value a n in
     let others : after ≡ plain_store heap.setup.settings after.next after.kept after.slots =
-        ap (λ (t : Store). record t { kept = changed_at birth change store.kept }) s.others in
+    ap (λ (t : Store). record t { kept = changed_at birth change store.kept }) s.others in
     let settled : store.settled ≡ [] = ap (λ (t : Store). t.settled) s.others in
     record {
       places = s.places;
@@ -179,11 +179,11 @@ put_stands heap store root item value s full l =
     let here = in_slot heap store root s full in
     let laid = laid_out types word p in
     let changes = changes-updated p (int_place heap root item) value s.objects here.there (omega arith) (omega (arith, l, laid.ordered, laid.pointers))
-        (λ j m e. absurd (omega (arith, e, l, laid.ordered))) in
+    (λ j m e. absurd (omega (arith, e, l, laid.ordered))) in
     subst (λ (b : Option ℕ). PartsStandFor (with_word_at heap (int_place heap root item) value) (record store { kept = changed_at b (with_int item value) store.kept })) (sym here.named)
     (word_stands heap store s (int_place heap root item) value (Some (s.name p)) (with_int item value)
-        (lies-at heap.memory.blocks p (layout_in heap root).words (int_place heap root item) (s.whole p here.there).whole (omega (arith, laid.begins)) (omega (arith, l, laid.ordered, laid.pointers)))
-        (each-keeps s.objects changes) (keeps_int item value) (int_holds p item value s.objects here.there l))
+    (lies-at heap.memory.blocks p (layout_in heap root).words (int_place heap root item) (s.whole p here.there).whole (omega (arith, laid.begins)) (omega (arith, l, laid.ordered, laid.pointers)))
+    (each-keeps s.objects changes) (keeps_int item value) (int_holds p item value s.objects here.there l))
 
 -- A reference of the object in a slot is written.
 pub link_stands : (heap : HeapParts) (store : Store) (root item place : ℕ) (s : PartsStandFor heap store) → place_in heap root ≢ 0
@@ -195,9 +195,9 @@ link_stands heap store root item place s full l pointer =
     let here = in_slot heap store root s full in
     let laid = laid_out types word p in
     let changes = changes-updated p (ref_place heap root item) place s.objects here.there (omega (arith, laid.ordered)) (omega (arith, l, laid.refs, laid.pointers))
-        (λ j m e. pointer) in
+    (λ j m e. pointer) in
     subst (λ (b : Option ℕ). PartsStandFor (with_word_at heap (ref_place heap root item) place)
-        (record store { kept = changed_at b (with_ref item (renamed s.name place)) store.kept })) (sym here.named)
+    (record store { kept = changed_at b (with_ref item (renamed s.name place)) store.kept })) (sym here.named)
     (word_stands heap store s (ref_place heap root item) place (Some (s.name p)) (with_ref item (renamed s.name place))
-        (lies-at heap.memory.blocks p (layout_in heap root).words (ref_place heap root item) (s.whole p here.there).whole (omega (arith, laid.begins, laid.ordered)) (omega (arith, l, laid.refs, laid.pointers)))
-        (each-keeps s.objects changes) (keeps_ref item (renamed s.name place)) (ref_holds p item place s.objects here.there l pointer))
+    (lies-at heap.memory.blocks p (layout_in heap root).words (ref_place heap root item) (s.whole p here.there).whole (omega (arith, laid.begins, laid.ordered)) (omega (arith, l, laid.refs, laid.pointers)))
+    (each-keeps s.objects changes) (keeps_ref item (renamed s.name place)) (ref_holds p item place s.objects here.there l pointer))

@@ -1,5 +1,5 @@
 -- The words of objects: when one of them changes, when one is born, and of objects in a row.
-use Rattle.std.proofs.Common.{◌≡◌, ℕ, ◌+◌, ◌≤◌, IsTrue, List, [], ◌∷◌, ◌++◌, length, map, Option, Some, None, refl, sym, ap, ap₂, ◌∙◌, inl, inr, arith, zero-add}
+use Rattle.std.proofs.Common.{◌≡◌, ℕ, ◌+◌, ◌≤◌, IsTrue, List, [], ◌∷◌, ◌++◌, length, Option, Some, None, refl, sym, ap, ap₂, ◌∙◌, inl, inr, arith, zero-add}
 use Rattle.std.specs.Prelude.{◌==◌, sum_by, if◌then◌else◌}
 use Rattle.std.proofs.lemmas.Bool.{cases_Bool}
 use Rattle.std.proofs.lemmas.List.{length-set, length-replicate}
@@ -14,9 +14,8 @@ use Rattle.store_model.specs.Store.{kept_words}
 use Rattle.store_model.specs.Sets.{is_in}
 use Rattle.store_model.specs.Slots.{changed_at, with_int, with_ref}
 use Rattle.store_model.specs.Birth.{Request, newborn}
-use Rattle.store_model.specs.ObjectWords.{words_at, object_from}
+use Rattle.store_model.specs.ObjectWords.{words_at}
 use Rattle.object_view.proofs.WordLaws.{is_in-cases, is_in-nil}
-use Rattle.object_view.proofs.FoundLaws.{words-from}
 use Rattle.heap_core.specs.StandsFor.{IsWalk}
 
 -- a change that keeps an object's words
@@ -75,8 +74,8 @@ walk-within types w from end p (q ∷ places) walk t =
     let last = walk-sum types w (from + words_at types w q) end places walk.1 in
     elim (is_in-cases p q places t) [
       | inl e ↦
-        let size : words_at types w p ≡ words_at types w q = ap (words_at types w) e in
-        (omega (arith, e, walk.0), omega (arith, e, walk.0, size, last))
+          let size : words_at types w p ≡ words_at types w q = ap (words_at types w) e in
+          (omega (arith, e, walk.0), omega (arith, e, walk.0, size, last))
       | inr u ↦ let more = walk-within types w (from + words_at types w q) end p places walk.1 u in (omega (arith, more.0), more.1)
     ]
 
@@ -85,11 +84,3 @@ pub walk-more : (types : Table TypeInfo) (w : ℕ → ℕ) (from end n : ℕ) (p
     → IsWalk types w from (places ++ end ∷ []) (end + n)
 walk-more types w from end n [] walk size = (sym walk, ap₂ (λ (a b : ℕ). a + b) walk size)
 walk-more types w from end n (p ∷ places) walk size = (walk.0, walk-more types w (from + words_at types w p) end n places walk.1 size)
-
--- the words of objects that are read at places
-pub sum-read : (types : Table TypeInfo) (name w : ℕ → ℕ) (places : List ℕ) → kept_words (map (object_from types name w) places) ≡ sum_by (words_at types w) places
-sum-read types name w [] = refl
-sum-read types name w (p ∷ places) =
-    let first : words_of (object_from types name w p) ≡ words_at types w p = words-from types name w p in
-    let rest = sum-read types name w places in
-    omega (arith, first, rest, sum_by-cons words_of (object_from types name w p) (map (object_from types name w) places), sum_by-cons (words_at types w) p places)

@@ -1,5 +1,4 @@
 -- What a contract sees of a heap.
-use Rattle.std.specs.Prelude.{Some}
 use Rattle.heap_core.specs.declared.heap.State.{State}
 use Rattle.heap_core.specs.declared.heap.State.TheVariants.{Closed, Started, Spent}
 use Rattle.heap_core.specs.Parts.{HeapSeen, closed_heap, spent_heap, heap_of}

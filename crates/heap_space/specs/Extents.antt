@@ -1,5 +1,5 @@
 -- Runs of words in use, and what a change leaves alone around them: the words of the layers that hand out blocks.
-use Rattle.std.specs.Prelude.{◌≡◌, ℕ, ◌+◌, ◌<◌, ◌≤◌, ◌⊎◌, Bool, ◌&&◌, nat_le, nat_lt, List, [], ◌∷◌, filter, map, length}
+use Rattle.std.specs.Prelude.{◌≡◌, ℕ, ◌+◌, ◌<◌, ◌≤◌, ◌⊎◌, Bool, false, ◌&&◌, ◌||◌, nat_le, nat_lt, List, [], ◌∷◌, filter, map, length}
 use Rattle.heap_space.specs.Places.{Placed, word_at}
 use Rattle.heap_space.specs.Memory.{Memory}
 
@@ -49,3 +49,13 @@ pub record IsUntouched (low high : ℕ) (old new : Memory) (live : List Extent) 
 -- no word of the live extents changes
 abbrev pub KeepsWords : Memory → Memory → List Extent → Type 0
 KeepsWords old new live = Each (λ x. (a : ℕ) → IsInside x a → word_at new.blocks a ≡ word_at old.blocks a) live
+
+-- whether the n places from a on lie together in one of the extents
+abbrev pub lies_within : List Extent → ℕ → ℕ → Bool
+lies_within [] a n = false
+lies_within (x ∷ xs) a n = (nat_le x.0 a && nat_le (a + n) (x.0 + x.1)) || lies_within xs a n
+
+-- from low on and below high blocks may come and go and words may change, and all else stays
+pub record KeepsOutside (low high : ℕ) (old new : Memory) : Type 0 where
+  pub below : IsUntouched 0 low old new []
+  pub above : (end : ℕ) → IsUntouched high end old new []

@@ -6,11 +6,7 @@ use Rattle.std.proofs.KnownBytes.{Appends-trans, Appends-nil, Consumes-trans}
 use Rattle.std.proofs.lemmas.Bool.{and_parts, not-true, both_ways}
 use Rattle.std.proofs.lemmas.Grind.{flat_map-append}
 use Rattle.store_model.specs.Lines.{lines_of, whole_lines_of, in_front_of_first, whole_text}
-use Rattle.type_table.specs.declared.info.TypeInfo.{TypeInfo}
-use Rattle.type_table.specs.Table.{Table}
-use Rattle.store_model.specs.declared.settings.Settings.{Settings}
 use Rattle.store_model.specs.Setup.{defaults}
-use Rattle.store_model.specs.Store.{empty_store}
 use Rattle.store_model.specs.Progress.{Progress, at_start}
 use Rattle.store_model.specs.EndOfRun.{IsDone}
 use Rattle.store_model.specs.Text.{transcript_text}

@@ -1,24 +1,22 @@
 -- What an item that is not refused does where a session and its heap stand.
-use Rattle.std.proofs.Common.{◌≡◌, ℕ, List, [], ◌∷◌, ◌++◌, Option, Some, None, false, true, Bool, Result, Ok, Err, cond, refl, sym, ap, ◌∙◌, subst, append-nil, option_map}
-use Rattle.std.specs.Prelude.{is_none, slice_get, ◌||◌}
+use Rattle.std.proofs.Common.{◌≡◌, ℕ, List, [], ◌∷◌, ◌++◌, Option, Some, None, false, refl, sym, ap, ◌∙◌, subst, append-nil, option_map}
+use Rattle.std.specs.Prelude.{is_none, slice_get}
 use Rattle.type_table.specs.declared.info.TypeInfo.{TypeInfo}
 use Rattle.type_table.specs.Table.{Table, with_value}
 use Rattle.store_model.specs.declared.command.Command.{Command}
 use Rattle.store_model.specs.declared.item.Item.{Item}
 use Rattle.store_model.specs.declared.item.Item.TheVariants.{Blank, Setting, TypeDef, Command as CommandItem}
-use Rattle.store_model.specs.declared.item.Reason.{Reason}
 use Rattle.store_model.specs.declared.item.Reason.TheVariants.{NotBuilt, Late, SetTwice, SetRange}
 use Rattle.store_model.specs.declared.line.Line.{Line}
-use Rattle.store_model.specs.declared.settings.Settings.{Settings}
 use Rattle.store_model.specs.Setup.{Setup}
-use Rattle.store_model.specs.Store.{Store, empty_store}
+use Rattle.store_model.specs.Store.{empty_store}
 use Rattle.store_model.specs.Sets.{is_in}
 use Rattle.store_model.specs.Steps.{Does}
 use Rattle.store_model.specs.Progress.{Progress, with_setting, after_setting, after_type, after_command}
 use Rattle.store_model.specs.Checks.{first_reason, is_outside, ranges}
 use Rattle.store_model.specs.Look.{Look}
-use Rattle.store_model.specs.Refusal.{refusal, refusal_seen, command_checks}
-use Rattle.store_model.specs.Transcript.{Group, ItemDoes}
+use Rattle.store_model.specs.Refusal.{refusal_seen, command_checks}
+use Rattle.store_model.specs.Transcript.{ItemDoes}
 use Rattle.heap_core.specs.Parts.{HeapParts, HeapSeen, heap_of, started_parts, closed_heap}
 use Rattle.heap_core.specs.Told.{told}
 use Rattle.heap_core.specs.StandsFor.{StandsFor}
@@ -73,7 +71,7 @@ stands_set : (session new : SessionSeen) (heap : HeapSeen) (at : Progress) (tabl
 stands_set session new heap at table name value is sets stands =
     let new_is : new.types ≡ Some table = sets.types ∙ is in
     let settings : with_setting at.setup.settings name value ≡ new.settings =
-        ap (λ (s : Setup). with_setting s.settings name value) stands.setup ∙ sym sets.settings in
+    ap (λ (s : Setup). with_setting s.settings name value) stands.setup ∙ sym sets.settings in
     let types : at.setup.types ≡ types_in new.types heap = ap (λ (s : Setup). s.types) stands.setup ∙ ap (λ (t : Option (Table TypeInfo)). types_in t heap) (sym sets.types) in
     let setup : (after_setting at name value).setup ≡ setup_of new heap = λ i. record { settings = settings i; types = types i } in
     record {
@@ -113,7 +111,7 @@ stands_typed session new heap at table id info is adds stands =
     let settings : at.setup.settings ≡ new.settings = ap (λ (s : Setup). s.settings) stands.setup ∙ sym adds.settings in
     let known : at.setup.types ≡ table = ap (λ (s : Setup). s.types) stands.setup ∙ ap (λ (t : Option (Table TypeInfo)). types_in t heap) is in
     let types : with_value at.setup.types id info ≡ types_in new.types heap =
-        ap (λ (t : Table TypeInfo). with_value t id info) known ∙ ap (λ (t : Option (Table TypeInfo)). types_in t heap) (sym new_is) in
+    ap (λ (t : Table TypeInfo). with_value t id info) known ∙ ap (λ (t : Option (Table TypeInfo)). types_in t heap) (sym new_is) in
     let setup : (after_type at id info).setup ≡ setup_of new heap = λ i. record { settings = settings i; types = types i } in
     record {
       has_heap = subst (λ (t : Option (Table TypeInfo)). HasHeap t new.settings heap) (sym new_is)
@@ -168,7 +166,7 @@ begins_first session new heap started types is none settings names becomes empty
 setup_same : (session mid : SessionSeen) (heap started : HeapSeen) (b : Begins session mid heap started) → b.has_heap.parts.setup ≡ setup_of session heap
 setup_same session mid heap started b =
     let types : b.has_heap.parts.setup.types ≡ types_in session.types heap =
-        ap (λ (h : HeapSeen). table_of h.parts) (sym b.has_heap.is) ∙ b.table in
+    ap (λ (h : HeapSeen). table_of h.parts) (sym b.has_heap.is) ∙ b.table in
     let same : b.has_heap.parts.setup ≡ setup_of session heap = λ i. record { settings = b.has_heap.settings_are i; types = types i } in
     same
 
@@ -206,7 +204,7 @@ does_command session mid heap started new at item command before after is accept
     let old = b.has_heap.parts in
     let step = does.does at.store (b.stores at.store stands.store) in
     let taken : Does old.setup at.store command does.lines step.0 =
-        subst (λ (h : HeapSeen). OfParts h.parts (λ parts. Does parts.setup at.store command does.lines step.0)) b.has_heap.is step.1 in
+    subst (λ (h : HeapSeen). OfParts h.parts (λ parts. Does parts.setup at.store command does.lines step.0)) b.has_heap.is step.1 in
     let setup_is : old.setup ≡ at.setup = setup_same session mid heap started b ∙ sym stands.setup in
     let kept : setup_in new ≡ Some old.setup = does.setup ∙ ap setup_in b.has_heap.is in
     let unspent : new.is_spent ≡ false = does.same_spent ∙ ap (λ (h : HeapSeen). h.is_spent) b.has_heap.is in
@@ -217,7 +215,7 @@ does_command session mid heap started new at item command before after is accept
       settings_are = ap (λ (s : Setup). s.settings) parts.2 ∙ (b.has_heap.settings_are ∙ sym b.settings);
     } in
     let types : types_in mid.types new ≡ at.setup.types =
-        ap (λ (t : Option (Table TypeInfo)). types_in t new) b.types ∙ (ap (λ (h : HeapSeen). table_of h.parts) parts.1 ∙ (ap (λ (s : Setup). s.types) parts.2 ∙ ap (λ (s : Setup). s.types) setup_is)) in
+    ap (λ (t : Option (Table TypeInfo)). types_in t new) b.types ∙ (ap (λ (h : HeapSeen). table_of h.parts) parts.1 ∙ (ap (λ (s : Setup). s.types) parts.2 ∙ ap (λ (s : Setup). s.types) setup_is)) in
     let settings : at.setup.settings ≡ mid.settings = ap (λ (s : Setup). s.settings) stands.setup ∙ sym b.settings in
     let setup : at.setup ≡ setup_of mid new = λ i. record { settings = settings i; types = sym types i } in
     record {

@@ -1,5 +1,5 @@
 -- What session and heap tell is what a look at the store sees.
-use Rattle.std.proofs.Common.{◌≡◌, ℕ, zero, suc, Bool, List, [], ◌∷◌, Option, Some, None, replicate, refl, sym, ap, ◌∙◌, subst}
+use Rattle.std.proofs.Common.{◌≡◌, ℕ, zero, suc, Bool, List, [], Option, Some, None, replicate, refl, sym, ap, ◌∙◌, subst}
 use Rattle.std.specs.Prelude.{slice_index_or, is_none, false, option_map, option_and_then, IsSome}
 use Rattle.type_table.specs.declared.info.TypeInfo.{TypeInfo}
 use Rattle.type_table.specs.Table.{Table}
@@ -7,11 +7,9 @@ use Rattle.store_model.specs.declared.item.Item.{Item}
 use Rattle.store_model.specs.declared.settings.Settings.{Settings}
 use Rattle.store_model.specs.Setup.{Setup}
 use Rattle.store_model.specs.Store.{Store, empty_store, object_at}
-use Rattle.store_model.specs.Object.{Object}
 use Rattle.store_model.specs.Slots.{held}
 use Rattle.store_model.specs.Shapes.{kind_in, kind_of}
 use Rattle.store_model.specs.Look.{Look, look, is_held_in}
-use Rattle.store_model.specs.StructChecks.{has_p_link}
 use Rattle.store_model.specs.Progress.{Progress}
 use Rattle.store_model.specs.Refusal.{refusal, refusal_seen}
 use Rattle.store_model.specs.declared.structure.StructState.TheVariants.{Absent}
@@ -20,7 +18,7 @@ use Rattle.heap_core.specs.Told.{word_in, kind_at, told}
 use Rattle.heap_core.specs.Commands.{nothing_told}
 use Rattle.heap_core.proofs.Calls.{look_told}
 use Rattle.session_core.specs.Seen.{SessionSeen}
-use Rattle.session_core.specs.Standing.{IsStarted, HasHeap, HasStore, StandsAt, seen_if, setup_of, refusal_of}
+use Rattle.session_core.specs.Standing.{HasHeap, HasStore, StandsAt, seen_if, setup_of, refusal_of}
 
 held-none : (roots root : ℕ) → held (replicate roots None) root ≡ None
 held-none zero root = refl
@@ -32,7 +30,7 @@ pub look-empty : (settings : Settings) → look (empty_store settings) ≡ nothi
 look-empty settings =
     let none : (root : ℕ) → held (replicate settings.roots None) root ≡ None = λ root. held-none settings.roots root in
     let kinds : (root : ℕ) → kind_in (replicate settings.roots None) [] root ≡ None =
-        λ root. ap (λ (b : Option ℕ). option_map kind_of (option_and_then (object_at []) b)) (none root) in
+    λ root. ap (λ (b : Option ℕ). option_map kind_of (option_and_then (object_at []) b)) (none root) in
     let pins : (root : ℕ) → is_held_in (held (replicate settings.roots None) root) [] ≡ false = λ root. ap (λ (b : Option ℕ). is_held_in b []) (none root) in
     let same : look (empty_store settings) ≡ nothing_told = λ i. record {
       kind = λ root. kinds root i;
@@ -55,7 +53,7 @@ pub told-started : (settings : Settings) (types : Table TypeInfo) → told (star
 told-started settings types =
     let heap : HeapParts = started_parts settings types in
     let kinds : (root : ℕ) → kind_at types (word_in heap) (slice_index_or (replicate settings.roots 0) root 0) ≡ None =
-        λ root. ap (kind_at types (word_in heap)) (place-none settings.roots root) in
+    λ root. ap (kind_at types (word_in heap)) (place-none settings.roots root) in
     let same : told heap ≡ nothing_told = λ i. record nothing_told { kind = λ root. kinds root i } in
     same
 
@@ -72,4 +70,4 @@ refusal_is session heap at item stands =
     ∙ (ap (λ (names : List ℕ). refusal_seen (setup_of session heap) names at.late (look at.store) item) stands.names
     ∙ (ap (λ (late : Bool). refusal_seen (setup_of session heap) session.names late (look at.store) item) stands.late
     ∙ ap (λ (seen : Look). refusal_seen (setup_of session heap) session.names (is_none session.types) seen item)
-        (look-seen session.types session.settings heap at.store stands.has_heap stands.store)))
+    (look-seen session.types session.settings heap at.store stands.has_heap stands.store)))

@@ -1,5 +1,5 @@
 -- Settings stay in their ranges when one is set in its range.
-use Rattle.std.proofs.Common.{◌≡◌, ℕ, zero, suc, ◌<◌, ◌≤◌, false, List, [], ◌∷◌, Some, None, refl, sym, ap, ◌∙◌, subst, arith}
+use Rattle.std.proofs.Common.{◌≡◌, ℕ, zero, suc, false, List, [], ◌∷◌, refl, sym, subst}
 use Rattle.std.specs.Prelude.{slice_get, slice_set, nat_lt, ◌||◌, Bool, true}
 use Rattle.std.proofs.lemmas.Bool.{ltb-false}
 use Rattle.store_model.specs.declared.settings.Settings.{Settings}

@@ -36,4 +36,4 @@ print_lines-requires g c =
     let placed = c.requires.placed in
     subst (λ (l : List Line). All IsProper l) (sym c.deref.ensures.value)
     (lines_proper placed.at c.in-Ok.item c.new-lines.result.items c.item.new.out.items c.item.new.self c.item.new.heap c.new-lines.ensures.items
-        (c.in-Ok-item.ensures.answers placed.at placed.stands))
+    (c.in-Ok-item.ensures.answers placed.at placed.stands))

@@ -25,7 +25,7 @@ returns-in-NewFixed c = on_ok_then c.new_object.result _ _
 pub returns-in-NewArray : goal.returns-in-NewArray
 returns-in-NewArray c = on_ok_then c.new_object-in-NewArray.result _ _
     (does_array c.args.heap.now c.new_object-in-NewArray.new.self c.args.command.now c.in-NewArray.root c.in-NewArray.type_id c.in-NewArray.len
-        c.args.out.now.items c.new_object-in-NewArray.new.out.items c.in-NewArray.is)
+    c.args.out.now.items c.new_object-in-NewArray.new.out.items c.in-NewArray.is)
     c.new_object-in-NewArray.ensures.born
 
 pub returns-in_default : goal.returns-in_default

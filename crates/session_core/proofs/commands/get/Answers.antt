@@ -1,4 +1,3 @@
-use Rattle.std.proofs.Common.{◌≡◌, ℕ, Ok, refl, sym, ◌∙◌}
 use Rattle.session_core.proofs.Doing.{does_get}
 use Rattle.session_core.proofs.commands.get.Goals as goal
 

@@ -1,4 +1,3 @@
-use Rattle.std.proofs.Common.{◌≡◌, Ok, refl, sym, ◌∙◌}
 use Rattle.session_core.proofs.Doing.{does_same}
 use Rattle.session_core.proofs.commands.same.Goals as goal
 

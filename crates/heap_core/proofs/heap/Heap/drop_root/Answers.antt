@@ -1,4 +1,4 @@
-use Rattle.std.proofs.Common.{None, ap, ◌∙◌}
+use Rattle.std.proofs.Common.{None, ap}
 use Rattle.store_model.specs.declared.command.Command.TheVariants.{DropRoot}
 use Rattle.store_model.specs.Slots.{put_in_slot}
 use Rattle.heap_core.specs.Seen.{seen}

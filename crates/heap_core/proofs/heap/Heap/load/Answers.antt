@@ -1,4 +1,4 @@
-use Rattle.std.proofs.Common.{◌≡◌, ℕ, Ok, Err, ap, sym, subst, ◌∙◌, ◌≢◌}
+use Rattle.std.proofs.Common.{ℕ, Ok, ap, sym, subst, ◌∙◌, ◌≢◌}
 use Rattle.store_model.specs.declared.command.Command.TheVariants.{Load}
 use Rattle.store_model.specs.Slots.{put_in_slot}
 use Rattle.store_model.specs.Steps.{ref_at}
@@ -34,11 +34,11 @@ birth_of-birth-requires c =
 pub returns-clause-birth : goal.returns-clause-birth
 returns-clause-birth c = λ store s. elim c.match-self.branch [
   | in-Started w ↦
-    let parts = w.in-Started.parts in
-    let now = in_state c.args.self.now c.self.inside.state (Started parts) c.self.view_is w.in-Started.is in
-    w.result-is ∙ ap Ok (w.birth_of-birth.ensures ∙ ap (λ (place : ℕ). birth_read (word_in parts) place) w.reference-place.ensures
-        ∙ load_is parts store c.args.to c.args.root c.args.i (ready_of c.args.self.now parts (Load c.args.to c.args.root c.args.i) now c.requires)
-        (stands_of c.args.self.now parts store now s))
+      let parts = w.in-Started.parts in
+      let now = in_state c.args.self.now c.self.inside.state (Started parts) c.self.view_is w.in-Started.is in
+      w.result-is ∙ ap Ok (w.birth_of-birth.ensures ∙ ap (λ (place : ℕ). birth_read (word_in parts) place) w.reference-place.ensures
+      ∙ load_is parts store c.args.to c.args.root c.args.i (ready_of c.args.self.now parts (Load c.args.to c.args.root c.args.i) now c.requires)
+      (stands_of c.args.self.now parts store now s))
   | in-Closed w ↦ nothing_idle c.args.self.now c.self.inside.state (Load c.args.to c.args.root c.args.i) store w.in-Closed.is c.self.view_is c.requires s
   | in-Closed-2 w ↦ nothing_idle c.args.self.now c.self.inside.state (Load c.args.to c.args.root c.args.i) store w.in-Closed.is c.self.view_is c.requires s
 ]

@@ -1,4 +1,4 @@
-use Rattle.std.proofs.Common.{ap, ◌∙◌}
+use Rattle.std.proofs.Common.{ap}
 use Rattle.store_model.specs.declared.command.Command.TheVariants.{Put}
 use Rattle.store_model.specs.Steps.{put_int}
 use Rattle.heap_core.specs.Seen.{seen}

@@ -1,4 +1,4 @@
-use Rattle.std.proofs.Common.{Ok, Bool, ℕ, ap, ap₂, ◌∙◌, nat_eq}
+use Rattle.std.proofs.Common.{Ok, ℕ, ap, ap₂, ◌∙◌, nat_eq}
 use Rattle.heap_core.specs.declared.heap.State.TheVariants.{Started}
 use Rattle.heap_core.proofs.Commands.{same_is}
 use Rattle.heap_core.proofs.Calls.{in_state, stands_of}

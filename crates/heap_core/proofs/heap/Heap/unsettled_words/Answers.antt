@@ -1,6 +1,6 @@
-use Rattle.std.proofs.Common.{◌≤◌, ℕ, ap, sym, subst, ◌∙◌}
+use Rattle.std.proofs.Common.{◌≤◌, ℕ, sym, subst}
 use Rattle.heap_core.specs.declared.heap.State.TheVariants.{Started}
-use Rattle.heap_core.specs.Parts.{HeapParts, HeapSeen}
+use Rattle.heap_core.specs.Parts.{HeapSeen}
 use Rattle.heap_core.specs.Commands.{OfParts}
 use Rattle.heap_core.proofs.BirthLaws.{unsettled_fits}
 use Rattle.heap_core.proofs.Calls.{in_state, standing_of}

@@ -9,4 +9,4 @@ pub bear-requires : goal.bear-requires
 bear-requires c =
     room_of c.args.self.now c.args.root c.in-Some.info c.args.len c.requires.standing
     (fits_some (value_at c.args.self.now.setup.types c.args.type_id) c.in-Some.info c.args.self.now c.args.root c.args.len
-        (sym (ap (λ (h : HeapParts). value_at h.setup.types c.args.type_id) c.self.view_is) ∙ (sym c.get.ensures ∙ c.in-Some.is)) c.requires.fits)
+    (sym (ap (λ (h : HeapParts). value_at h.setup.types c.args.type_id) c.self.view_is) ∙ (sym c.get.ensures ∙ c.in-Some.is)) c.requires.fits)

@@ -1,4 +1,4 @@
-use Rattle.std.proofs.Common.{◌≡◌, refl, sym, ap, subst, ◌∙◌}
+use Rattle.std.proofs.Common.{◌≡◌, sym, ap, subst, ◌∙◌}
 use Rattle.store_model.specs.declared.settings.Settings.{Settings}
 use Rattle.store_model.specs.Store.{empty_store}
 use Rattle.heap_core.specs.Parts.{heap_of, started_parts}
@@ -12,9 +12,9 @@ pub returns : goal.returns
 returns c =
     let settings = ap (λ (s : SessionSeen). s.settings) c.self.view_is in
     on_ok_both c.start.result _ _ _ (λ started empty.
-        begins_first c.args.self.now _ c.args.heap.now c.start.new.self c.in-Some.types
-        (ap (λ (s : SessionSeen). s.types) (sym c.self.view_is) ∙ (sym c.take.ensures.value ∙ c.in-Some.is))
-        c.take.ensures.after settings (ap (λ (s : SessionSeen). s.names) c.self.view_is)
-        (subst (λ (s : Settings). c.start.new.self ≡ heap_of (started_parts s c.in-Some.types)) settings started)
-        (subst (λ (s : Settings). StandsFor c.start.new.self (empty_store s)) settings empty))
+    begins_first c.args.self.now _ c.args.heap.now c.start.new.self c.in-Some.types
+    (ap (λ (s : SessionSeen). s.types) (sym c.self.view_is) ∙ (sym c.take.ensures.value ∙ c.in-Some.is))
+    c.take.ensures.after settings (ap (λ (s : SessionSeen). s.names) c.self.view_is)
+    (subst (λ (s : Settings). c.start.new.self ≡ heap_of (started_parts s c.in-Some.types)) settings started)
+    (subst (λ (s : Settings). StandsFor c.start.new.self (empty_store s)) settings empty))
     c.start.ensures.started c.start.ensures.empty

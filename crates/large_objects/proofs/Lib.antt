@@ -1,0 +1,11 @@
+pub mod Same
+pub mod Rising
+pub mod MemoryLaws
+pub mod PlaceLaws
+pub mod LargeLaws
+pub mod CallLaws
+pub mod NextLaws
+pub mod KeptLaws
+pub mod NewLaws
+pub mod SweepLaws
+pub mod WaitLaws

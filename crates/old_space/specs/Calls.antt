@@ -1,0 +1,53 @@
+-- What the calls promise beside the live blocks and the waiting units.
+use Rattle.std.specs.Prelude.{◌≡◌, ℕ, ◌*◌, ◌<◌, ◌≤◌, nat_lt, if◌then◌else◌, List, [], length, Contains}
+use Rattle.heap_space.specs.Memory.{Memory}
+use Rattle.heap_space.specs.Extents.{Extent, Each}
+use Rattle.size_pages.specs.Calls.{page_of}
+use Rattle.store_model.specs.declared.settings.Settings.{Settings}
+use Rattle.large_objects.specs.Blocks.{larges_of, without_place}
+use Rattle.old_space.specs.HasBlocks.{HasBlocks, IsLive}
+use Rattle.old_space.specs.declared.Old.{Old}
+
+-- the settings of pages lie in their ranges
+pub record HasPageSettings (settings : Settings) : Type 0 where
+  pub page_low : 64 ≤ settings.page
+  pub page_high : settings.page ≤ 8192
+  pub arena_low : 1 ≤ settings.arena
+  pub arena_high : settings.arena ≤ 1024
+  pub small_low : 2 ≤ settings.small
+
+-- the memory has no arena and no large block yet, and its arenas are to have the words of their pages
+pub record IsEmptyFor (settings : Settings) (m : Memory) : Type 0 where
+  pub arenas : m.next_arena ≡ 4294967296
+  pub arena_words : m.arena_words ≡ settings.page * settings.arena
+  pub larges : larges_of m ≡ []
+
+-- a page gives the block at a exactly where it has at most `small` words
+pub record ComesFrom (small n a : ℕ) : Type 0 where
+  pub page : n ≤ small → a < 1099511627776
+  pub large : small < n → 1099511627776 ≤ a
+
+-- the units that wait after the block at a was given back: its page waits on, a large block does not
+abbrev pub still_waiting : ℕ → List ℕ → List ℕ
+still_waiting a waiting = if nat_lt a 1099511627776 then waiting else without_place a waiting
+
+-- the unit of the block at a: its page, or the large block itself
+abbrev pub unit_of : Old → ℕ → ℕ
+unit_of old a = if nat_lt a 1099511627776 then page_of old.pages.page a else a
+
+-- a live block begins at the place
+pub record BeginsLive (old : Old) (m : Memory) (a : ℕ) : Type 0 where
+  pub words : ℕ
+  pub live : IsLive old m (a, words)
+
+-- no unit waits
+pub record NoneWaits (old : Old) (m : Memory) : Type 0 where
+  pub live : List Extent
+  pub blocks : HasBlocks old m live []
+
+-- a sweep begins: the units of all live blocks wait, and these are at most as many as the blocks
+pub record BeginsSweep (old : Old) (m : Memory) (live : List Extent) : Type 0 where
+  pub waiting : List ℕ
+  pub blocks : HasBlocks old m live waiting
+  pub every : Each (λ x. Contains waiting (unit_of old x.0)) live
+  pub most : length waiting ≤ length live

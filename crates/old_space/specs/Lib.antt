@@ -1,0 +1,3 @@
+pub mod HasBlocks
+pub mod Calls
+pub mod Headers

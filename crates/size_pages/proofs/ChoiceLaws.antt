@@ -1,0 +1,119 @@
+-- Which page a block comes from, and that it is none of the waiting ones.
+use Rattle.std.proofs.Common.{◌≡◌, ◌≢◌, ℕ, ◌+◌, ◌*◌, ◌<◌, ◌≤◌, ◌⊎◌, inl, inr, List, slice_index, arith, sym, ◌∙◌, ap, subst}
+use Rattle.std.proofs.lemmas.Bool.Decides.{eqb_tells, nat_tests}
+use Rattle.heap_space.specs.Memory.{Memory}
+use Rattle.heap_space.specs.Extents.{Extent}
+use Rattle.size_pages.specs.PageWords.{Words, word_in}
+use Rattle.size_pages.specs.LiveBlocks.{page_at}
+use Rattle.size_pages.specs.PageLists.{EachPlace, IsPage, list_number, list_of, IsListedRightly, ListsFit, HasRoom}
+use Rattle.size_pages.specs.HasBlocks.{HasBlocks, Stands, KeepsSizes}
+use Rattle.size_pages.specs.Growth.{BeginsPage}
+use Rattle.size_pages.specs.Calls.{page_of, IsInNone, TakesFrom, AddsArena}
+use Rattle.size_pages.specs.declared.Pages.{Pages}
+use Rattle.size_pages.proofs.FitLaws.{pages_apart}
+use Rattle.size_pages.proofs.ListLaws.{places_map, places_both}
+use Rattle.size_pages.proofs.TakeLaws.{FirstWithRoom}
+use Rattle.size_pages.proofs.GrowthLaws.{none_has_room}
+use Rattle.size_pages.proofs.BeginLaws.{some_words}
+
+-- a waiting page: it has a class, and its word 6 says so
+pub record IsWaitingPage (w : Words) (size count q : ℕ) : Type 0 where
+  pub is_page : IsPage size count q
+  pub kind : w (q + 6) ≡ 3
+  pub used : 2 ≤ w q
+
+kind_of_one : (kind class : ℕ) → kind ≤ 3 → (kind ≢ 0 → 2 ≤ class) → list_number kind class ≡ 1 → kind ≡ 3
+kind_of_one kind class high used e = grind (arith, nat_tests)
+
+waiting_page : (w : Words) (size count : ℕ) (heads waiting : List ℕ) → ListsFit w size count heads waiting 0 → (q : ℕ) → IsPage size count q → (list_of w q ≡ 1) × (q ≢ 0) → IsWaitingPage w size count q
+waiting_page w size count heads waiting f q is on =
+    let at : q ≡ page_at size is.number = is.is in
+    let right : IsListedRightly w size q = subst (λ (p : ℕ). IsListedRightly w size p) (sym at) (f.rightly is.number is.below (omega arith)) in
+    let kind = kind_of_one (w (q + 6)) (w q) right.known right.used on.0 in
+    record { is_page = is; kind = kind; used = right.used (omega arith) }
+
+pub waiting_pages : (w : Words) (size count : ℕ) (heads waiting : List ℕ) → ListsFit w size count heads waiting 0 → EachPlace (IsWaitingPage w size count) waiting
+waiting_pages w size count heads waiting f =
+    subst (EachPlace (IsWaitingPage w size count)) f.waits
+    (places_both (IsPage size count) (λ q. (list_of w q ≡ 1) × (q ≢ 0)) (IsWaitingPage w size count) (waiting_page w size count heads waiting f) (f.lists 1) (f.pages 1) (f.right 1))
+
+-- a block of a page that is none of them
+pub in_none : (w : Words) (size count p a : ℕ) (waiting : List ℕ) → EachPlace (IsWaitingPage w size count) waiting → (n : ℕ) → IsPage size n p → (w (p + 6) ≢ 3) ⊎ (w p ≡ 0) → p ≤ a → a < p + size → IsInNone size waiting a
+in_none w size count p a waiting all n is free low high =
+    places_map (IsWaitingPage w size count) (λ q. (a < q) ⊎ (q + size ≤ a)) (λ q wait.
+    let at : p ≡ page_at size is.number = is.is in
+    let to : q ≡ page_at size wait.is_page.number = wait.is_page.is in
+    let used : 2 ≤ w q = wait.used in
+    elim (eqb_tells is.number wait.is_page.number) [
+      | inl e ↦ (let same : q ≡ p = to ∙ ap (page_at size) (sym e.1) ∙ sym at in
+          elim free [ inl k ↦ absurd (k (ap (λ (r : ℕ). w (r + 6)) (sym same) ∙ wait.kind)) | inr z ↦ absurd (let e : w q ≡ 0 = ap w same ∙ z in omega arith) ])
+      | inr ne ↦ elim (pages_apart size is.number wait.is_page.number ne.1) [ inl x ↦ inl (omega arith) | inr y ↦ inr (omega arith) ]
+    ]) waiting all
+
+list_two : (kind class n : ℕ) → 2 ≤ n → list_number kind class ≡ 2 * n → kind ≢ 3
+list_two kind class n two e = grind (arith, nat_tests)
+
+pub first_not_waiting : (pages : Pages) (m : Memory) (page n : ℕ) → 2 ≤ n → FirstWithRoom pages m page n → word_in m (page + 6) ≢ 3
+first_not_waiting pages m page n two g = list_two (word_in m (page + 6)) (word_in m page) n two (sym g.off.is_list)
+
+-- the numbers of pages that were given their heads
+pub from_grown : (pages p1 : Pages) (m : Memory) (n a page : ℕ) → KeepsSizes pages p1 → p1.count ≡ pages.count → page ≡ page_of p1.page a → TakesFrom (word_in m) p1.page p1.count n page → TakesFrom (word_in m) pages.page pages.count n (page_of pages.page a)
+from_grown pages p1 m n a page s count is h =
+    subst (λ (k : ℕ). TakesFrom (word_in m) k pages.count n (page_of k a)) s.page (subst (λ (k : ℕ). TakesFrom (word_in m) p1.page k n (page_of p1.page a)) count (subst (λ (p : ℕ). TakesFrom (word_in m) p1.page p1.count n p) is h))
+
+pub arena_grown : (pages p1 : Pages) (m new : Memory) (n : ℕ) → KeepsSizes pages p1 → p1.count ≡ pages.count → AddsArena (word_in m) p1.page p1.count n m new → AddsArena (word_in m) pages.page pages.count n m new
+arena_grown pages p1 m new n s count h =
+    subst (λ (k : ℕ). AddsArena (word_in m) k pages.count n m new) s.page (subst (λ (k : ℕ). AddsArena (word_in m) p1.page k n m new) count h)
+
+pub none_grown : (pages p1 : Pages) (a : ℕ) (waiting : List ℕ) → KeepsSizes pages p1 → IsInNone p1.page waiting a → IsInNone pages.page waiting a
+none_grown pages p1 a waiting s h = subst (λ (k : ℕ). IsInNone k waiting a) s.page h
+
+-- the block comes from a page with room
+pub from_first : (pages : Pages) (m : Memory) (page n : ℕ) → 2 ≤ n → FirstWithRoom pages m page n → TakesFrom (word_in m) pages.page pages.count n page
+from_first pages m page n two g = record {
+  class = inl g.class;
+  full = λ z. absurd (let e : n ≡ 0 = sym g.class ∙ z in omega arith);
+  lowest = λ z. absurd (let e : n ≡ 0 = sym g.class ∙ z in omega arith);
+}
+
+pub arena_first : (pages : Pages) (m new : Memory) (page n : ℕ) → 2 ≤ n → Stands pages m → FirstWithRoom pages m page n → new.next_arena ≡ m.next_arena → AddsArena (word_in m) pages.page pages.count n m new
+arena_first pages m new page n two st g same =
+    let some : 0 < m.arena_words = some_words pages m st in
+    let k = g.off.is_page.number in
+    let at : page ≡ page_at pages.page k = g.off.is_page.is in
+    let w = word_in m in
+    record {
+      one = inl same;
+      exactly = (
+        λ e. absurd (omega arith),
+        λ none. absurd (none.0 k g.off.is_page.below (subst (λ (p : ℕ). w p ≡ n) at g.class) (subst (λ (p : ℕ). w (p + 6) ≢ 3) at (first_not_waiting pages m page n two g)) (subst (λ (p : ℕ). HasRoom w pages.page p) at g.room)),
+      );
+    }
+
+-- the block comes from a page that is begun
+pub from_begun : (pages after : Pages) (m new : Memory) (page n : ℕ) → Stands pages m → 2 ≤ n → slice_index pages.heads.items (2 * n) ≡ 0 → BeginsPage pages after m new page n → TakesFrom (word_in m) pages.page pages.count n page
+from_begun pages after m new page n st two none b = record {
+  class = inr b.unused;
+  full = λ z. none_has_room pages m n st.live st.waiting st.fits two none;
+  lowest = λ z. b.lower;
+}
+
+pub arena_begun : (pages after : Pages) (m new last : Memory) (page n : ℕ) → Stands pages m → 2 ≤ n → slice_index pages.heads.items (2 * n) ≡ 0 → BeginsPage pages after m new page n → last.next_arena ≡ new.next_arena → AddsArena (word_in m) pages.page pages.count n m last
+arena_begun pages after m new last page n st two none b same = record {
+  one = elim b.one [ inl e ↦ inl (same ∙ e) | inr e ↦ inr (same ∙ e) ];
+  exactly = (λ e. (none_has_room pages m n st.live st.waiting st.fits two none, b.exactly.0 (sym same ∙ e)), λ h. same ∙ b.exactly.1 h.1);
+}
+
+pub first_elsewhere : (pages p2 : Pages) (m : Memory) (page n a : ℕ) → 2 ≤ n → FirstWithRoom pages m page n → p2.page ≡ pages.page → (page + 8 ≤ a) × (a + n ≤ page + p2.page) → (live : List Extent) (waiting : List ℕ) → HasBlocks pages m live waiting → IsInNone pages.page waiting a
+first_elsewhere pages p2 m page n a two g size place live waiting f =
+    let low : page + 8 ≤ a = place.0 in
+    let high : a + n ≤ page + p2.page = place.1 in
+    in_none (word_in m) pages.page pages.count page a waiting (waiting_pages (word_in m) pages.page pages.count pages.heads.items waiting f.lists) pages.count g.off.is_page (inl (first_not_waiting pages m page n two g)) (omega arith) (omega arith)
+
+pub begun_elsewhere : (pages after : Pages) (m new : Memory) (page n a : ℕ) → BeginsPage pages after m new page n → (page + 8 ≤ a) × (a + n ≤ page + after.page) → (live : List Extent) (waiting : List ℕ) → HasBlocks pages m live waiting → IsInNone pages.page waiting a
+begun_elsewhere pages after m new page n a b place live waiting f =
+    let low : page + 8 ≤ a = place.0 in
+    let high : a + n ≤ page + after.page = place.1 in
+    let size : after.page ≡ pages.page = b.sizes.page in
+    let two : 2 ≤ n = b.can.low in
+    in_none (word_in m) pages.page pages.count page a waiting (waiting_pages (word_in m) pages.page pages.count pages.heads.items waiting f.lists) after.count (subst (λ (k : ℕ). IsPage k after.count page) size b.can.is_page) (inr b.unused) (omega arith) (omega arith)

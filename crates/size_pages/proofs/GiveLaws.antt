@@ -1,0 +1,197 @@
+-- Giving a block back, over all pages.
+use Rattle.std.proofs.Common.{◌≡◌, ◌≢◌, ℕ, ◌+◌, ◌-◌, ◌*◌, ◌/◌, ◌<◌, ◌≤◌, ◌⊎◌, inl, inr, List, [], ◌∷◌, length, arith, refl, sym, ◌∙◌, ap, subst}
+use Rattle.std.proofs.lemmas.Bool.Decides.{eqb_tells}
+use Rattle.std.proofs.lemmas.Nat.{div-mul-add}
+use Rattle.heap_space.specs.Memory.{Memory}
+use Rattle.heap_space.specs.Extents.{Extent}
+use Rattle.size_pages.specs.PageWords.{Words, word_in, IsInArenas, PageHolds, GivesBack, Clears}
+use Rattle.size_pages.specs.LiveBlocks.{page_at, blocks_of, BlocksFit, ClassesFit, PageIs}
+use Rattle.size_pages.specs.PageLists.{IsPage, IsRight, IsListedRightly, ListsFit, SameSigns}
+use Rattle.size_pages.specs.HasBlocks.{HasBlocksBut}
+use Rattle.size_pages.specs.Steps.{CanPut, IsOnlyHeads, BlockIn}
+use Rattle.size_pages.specs.declared.Pages.{Pages}
+use Rattle.size_pages.proofs.PageLaws.{holds_given}
+use Rattle.size_pages.proofs.FitLaws.{pages_apart, pages_part, fits_less, page_of_block, page_used, stays_elsewhere}
+use Rattle.size_pages.proofs.ListMoves.{SameLinks, lists_frame, rightly_same}
+use Rattle.size_pages.proofs.FitsLaws.{fits_new, page_facts, header_has, below_of, places_of}
+
+-- nothing of the pages' numbers changes
+pub only_same : (pages : Pages) → IsOnlyHeads pages pages
+only_same pages = record { page = refl; pages_per_arena = refl; small = refl; count = refl; lowest = refl; waiting = refl; room = refl }
+
+-- one page changes
+pub classes_one : (old new : Words) (size count most was lowest k : ℕ) → ClassesFit old size count most was → lowest ≤ was → ((e : ℕ) → (e < page_at size k) ⊎ (page_at size k + size ≤ e) → new e ≡ old e) → 64 ≤ size → new (page_at size k) ≤ most → (k < lowest → new (page_at size k) ≢ 0) → ClassesFit new size count most lowest
+classes_one old new size count most was lowest k h less same wide small used =
+    let within : was ≤ count = h.within in
+    let other : (j : ℕ) → j ≢ k → new (page_at size j) ≡ old (page_at size j) = λ j n. same (page_at size j) (elim (pages_apart size j k n) [ inl a ↦ inl (omega arith) | inr b ↦ inr b ]) in
+    record {
+      small = λ j below. elim (eqb_tells j k) [
+        | inl a ↦ subst (λ (i : ℕ). new (page_at size i) ≤ most) (sym a.1) small
+        | inr b ↦ subst (λ (c : ℕ). c ≤ most) (sym (other j b.1)) (h.small j below)
+      ];
+      within = omega arith;
+      used = λ j below. elim (eqb_tells j k) [
+        | inl a ↦ subst (λ (i : ℕ). i < lowest → new (page_at size i) ≢ 0) (sym a.1) used below
+        | inr b ↦ λ e. h.used j (omega arith) (sym (other j b.1) ∙ e)
+      ];
+    }
+
+-- all words but the page's own are the same
+abbrev pub IsOnlyPage : Words → Words → ℕ → ℕ → Type 0
+IsOnlyPage old new p size = (e : ℕ) → (e < p) ⊎ (p + size ≤ e) → new e ≡ old e
+
+other_word : (size count x p i : ℕ) → 64 ≤ size → IsPage size count x → IsPage size count p → x ≢ p → i < 8 → (x + i < p) ⊎ (p + size ≤ x + i)
+other_word size count x p i wide px pp n small =
+    let at : x ≡ page_at size px.number = px.is in
+    let to : p ≡ page_at size pp.number = pp.is in
+    elim (eqb_tells px.number pp.number) [
+      | inl a ↦ absurd (n (px.is ∙ ap (page_at size) a.1 ∙ sym pp.is))
+      | inr b ↦ elim (pages_apart size px.number pp.number b.1) [ inl c ↦ inl (omega arith) | inr d ↦ inr (omega arith) ]
+    ]
+
+-- one page changes, and its links do not
+pub lists_inner : (old new : Words) (size count : ℕ) (heads waiting : List ℕ) (except p : ℕ) → 64 ≤ size → ListsFit old size count heads waiting except → IsPage size count p → IsOnlyPage old new p size → (p ≢ except → SameLinks old new p × IsListedRightly new size p) → ListsFit new size count heads waiting except
+lists_inner old new size count heads waiting except p wide h pp same here =
+    let word : (x i : ℕ) → IsPage size count x → x ≢ p → i < 8 → new (x + i) ≡ old (x + i) = λ x i px n small. same (x + i) (other_word size count x p i wide px pp n small) in
+    let signs : (x : ℕ) → IsPage size count x → x ≢ p → SameSigns old new x = λ x px n. record {
+      class = subst (λ (e : ℕ). new e ≡ old e) (omega arith) (word x 0 px n (omega arith));
+      chain = word x 1 px n (omega arith);
+      count = word x 2 px n (omega arith);
+      fresh = word x 3 px n (omega arith);
+      kind = word x 6 px n (omega arith);
+    } in
+    lists_frame old new size count heads waiting except h
+    (λ x px n. elim (eqb_tells x p) [
+      | inl a ↦ subst (λ (y : ℕ). SameLinks old new y) (sym a.1) (here (λ e. n (a.1 ∙ e))).0
+      | inr b ↦ record { class = (signs x px b.1).class; next = word x 4 px b.1 (omega arith); before = word x 5 px b.1 (omega arith); kind = (signs x px b.1).kind }
+    ])
+    (λ k below n. elim (eqb_tells (page_at size k) p) [
+      | inl a ↦ subst (λ (y : ℕ). IsListedRightly new size y) (sym a.1) (here (λ e. n (a.1 ∙ e))).1
+      | inr b ↦ rightly_same old new size (page_at size k) (signs (page_at size k) (record { number = k; below = below; is = refl }) b.1) (h.rightly k below n)
+    ])
+
+pub page_number : (size k a : ℕ) → 64 ≤ size → page_at size k ≤ a → a < page_at size k + size → (a - 4294967296) / size ≡ k
+page_number size k a wide low high =
+    let r = a - page_at size k in
+    let e : a - 4294967296 ≡ k * size + r = omega arith in
+    ap (λ (x : ℕ). x / size) e ∙ div-mul-add k size r (omega arith)
+
+-- the page that the code finds is the block's
+pub block_in : (w : Words) (size count a n p : ℕ) (live : List Extent) → BlocksFit w size count ((a, n) ∷ live) → p ≡ page_at size ((a - 4294967296) / size) → BlockIn size count p a n
+block_in w size count a n p live h is =
+    let i = h.inside.0 in
+    let wide : 64 ≤ size = h.size_low in
+    let two : 2 ≤ n = i.wide in
+    let low : page_at size i.page + 8 ≤ a = i.low in
+    let high : a + n ≤ page_at size i.page + size = i.high in
+    let at : p ≡ page_at size i.page = is ∙ ap (page_at size) (page_number size i.page a wide (omega arith) (omega arith)) in
+    record { page = record { number = i.page; below = i.below; is = at }; wide = two; low = omega arith; high = omega arith }
+
+-- the page of a live block
+pub record UsedPage (w : Words) (size p a n : ℕ) (live : List Extent) : Type 0 where
+  pub free : List Extent
+  pub holds : PageHolds w size p free ((a, n) ∷ blocks_of size p live)
+
+pub used_page : (w : Words) (size count a n p : ℕ) (live : List Extent) → BlocksFit w size count ((a, n) ∷ live) → BlockIn size count p a n → UsedPage w size p a n live
+used_page w size count a n p live h b =
+    let k = b.page.number in
+    let at : p ≡ page_at size k = b.page.is in
+    let two : 2 ≤ n = b.wide in
+    let low : p + 8 ≤ a = b.low in
+    let high : a + n ≤ p + size = b.high in
+    let is : PageIs w size p ((a, n) ∷ blocks_of size p live) = subst (λ (q : ℕ). PageIs w size q ((a, n) ∷ blocks_of size q live)) (sym at) (page_of_block w size count k (a, n) live b.page.below h (omega arith) (omega arith)) in
+    record { free = is.free; holds = is.holds (λ e. let no_blocks = is.unused e in (cc)) }
+
+pub can_put : (pages : Pages) (m : Memory) (live : List Extent) (waiting : List ℕ) (except spare page a n : ℕ) → HasBlocksBut pages m ((a, n) ∷ live) waiting except spare → BlockIn pages.page pages.count page a n → CanPut m page a
+can_put pages m live waiting except spare page a n f b =
+    let size = pages.page in
+    let count = pages.count in
+    let wide : 64 ≤ size = f.blocks.size_low in
+    let g = page_facts size count page b.page (below_of f) in
+    let low : 4294967296 ≤ page = g.low in
+    let high : page + size ≤ page_at size count = g.high in
+    let short : page + size ≤ 1099511627776 = g.short in
+    let two : 2 ≤ n = b.wide in
+    let from : page + 8 ≤ a = b.low in
+    let upto : a + n ≤ page + size = b.high in
+    let u = used_page (word_in m) size count a n page live f.blocks b in
+    let c : word_in m (page + 2) ≡ length (blocks_of size page live) + 1 = u.holds.count ∙ omega arith in
+    record {
+      header = header_has m size count page wide (places_of f) (below_of f) b.page;
+      block_in = places_of f a (omega arith) (omega arith);
+      link_in = places_of f (a + 1) (omega arith) (omega arith);
+      apart = from;
+      count = omega arith;
+    }
+
+-- the block goes on the chain of its page
+pub given_fits : (pages : Pages) (m new : Memory) (live : List Extent) (waiting : List ℕ) (except spare page a n : ℕ) → HasBlocksBut pages m ((a, n) ∷ live) waiting except spare → BlockIn pages.page pages.count page a n → GivesBack (word_in m) (word_in new) page a → IsInArenas m new → (page ≢ except → IsListedRightly (word_in new) pages.page page) → HasBlocksBut pages new live waiting except spare
+given_fits pages m new live waiting except spare page a n f b g s right =
+    let size = pages.page in
+    let count = pages.count in
+    let old = word_in m in
+    let now = word_in new in
+    let wide : 64 ≤ size = f.blocks.size_low in
+    let two : 2 ≤ n = b.wide in
+    let from : page + 8 ≤ a = b.low in
+    let upto : a + n ≤ page + size = b.high in
+    let k = b.page.number in
+    let at : page ≡ page_at size k = b.page.is in
+    let only : IsOnlyPage old now page size = λ e out. elim out [ inl x ↦ g.rest e (omega arith) (omega arith) (omega arith) (omega arith) | inr y ↦ g.rest e (omega arith) (omega arith) (omega arith) (omega arith) ] in
+    let word : (i : ℕ) → i < 8 → i ≢ 1 → i ≢ 2 → now (page + i) ≡ old (page + i) = λ i small n1 n2. g.rest (page + i) (omega arith) (omega arith) (omega arith) (omega arith) in
+    let u = used_page old size count a n page live f.blocks b in
+    let holds : PageHolds now size page ((a, n) ∷ u.free) (blocks_of size page live) = holds_given old now size page (a, n) u.free (blocks_of size page live) u.holds g in
+    let blocks : BlocksFit now size count live = fits_less old now size count k (a, n) [] live b.page.below f.blocks (omega arith) (omega arith)
+    (subst (λ (q : ℕ). PageIs now size q (blocks_of size q live)) at (page_used now size page ((a, n) ∷ u.free) (blocks_of size page live) holds))
+    (stays_elsewhere old now size count k (subst (λ (q : ℕ). (e : ℕ) → (e < q) ⊎ (q + size ≤ e) → now e ≡ old e) at only)) in
+    let lists : ListsFit now size count pages.heads.items waiting except = lists_inner old now size count pages.heads.items waiting except page wide f.lists b.page only
+    (λ ne. (record { class = subst (λ (e : ℕ). now e ≡ old e) (omega arith) (word 0 (omega arith) (omega arith) (omega arith)); next = word 4 (omega arith) (omega arith) (omega arith); before = word 5 (omega arith) (omega arith) (omega arith); kind = word 6 (omega arith) (omega arith) (omega arith) }, right ne)) in
+    let is_class : now (page_at size k) ≡ old (page_at size k) = subst (λ (q : ℕ). now q ≡ old q) at (subst (λ (e : ℕ). now e ≡ old e) (omega arith) (word 0 (omega arith) (omega arith) (omega arith))) in
+    let classes : ClassesFit now size count pages.small pages.lowest = classes_one old now size count pages.small pages.lowest pages.lowest k f.classes (omega arith) (subst (λ (q : ℕ). (e : ℕ) → (e < q) ⊎ (q + size ≤ e) → now e ≡ old e) at only) wide
+    (subst (λ (c : ℕ). c ≤ pages.small) (sym is_class) (f.classes.small k b.page.below)) (λ below e. f.classes.used k below (sym is_class ∙ e)) in
+    fits_new pages pages m new ((a, n) ∷ live) live waiting except except spare f (only_same pages) s blocks classes lists
+
+-- the page's words after it got a free block
+pub right_given : (old new : Words) (size p a kind : ℕ) → p + 8 ≤ a → GivesBack old new p a → IsRight kind old size p → kind ≢ 2 → (kind ≡ 1 → 2 ≤ old (p + 2)) → IsRight kind new size p
+right_given old new size p a kind far g h not_full more =
+    let class : new p ≡ old p = g.rest p (omega arith) (omega arith) (omega arith) (omega arith) in
+    let count : new (p + 2) + 1 ≡ old (p + 2) = g.count in
+    record {
+      known = h.known;
+      unused = λ e. class ∙ h.unused e;
+      used = λ e. subst (λ (c : ℕ). 2 ≤ c) (sym class) (h.used e);
+      room = λ e. inl (λ z. let head : new (p + 1) ≡ a = g.head in omega arith);
+      full = λ e. absurd (not_full e);
+      busy = λ e. let two : 2 ≤ old (p + 2) = more e in omega arith;
+    }
+
+pub length_none : (xs : List Extent) → length xs ≡ 0 → xs ≡ []
+length_none [] e = refl
+length_none (x ∷ xs) e = absurd (omega arith)
+
+-- the last block of an unlisted page goes
+pub cleared_fits : (pages : Pages) (m new : Memory) (live : List Extent) (waiting : List ℕ) (page a n : ℕ) → HasBlocksBut pages m ((a, n) ∷ live) waiting page 0 → page_at pages.page pages.lowest ≤ page → BlockIn pages.page pages.count page a n → word_in m (page + 2) ≡ 1 → Clears (word_in m) (word_in new) page → IsInArenas m new → HasBlocksBut pages new live waiting page 0
+cleared_fits pages m new live waiting page a n f lowered b one g s =
+    let size = pages.page in
+    let count = pages.count in
+    let old = word_in m in
+    let now = word_in new in
+    let wide : 64 ≤ size = f.blocks.size_low in
+    let two : 2 ≤ n = b.wide in
+    let from : page + 8 ≤ a = b.low in
+    let upto : a + n ≤ page + size = b.high in
+    let k = b.page.number in
+    let at : page ≡ page_at size k = b.page.is in
+    let only : IsOnlyPage old now page size = λ e out. elim out [ inl x ↦ g.rest e (omega arith) (omega arith) (omega arith) (omega arith) | inr y ↦ g.rest e (omega arith) (omega arith) (omega arith) (omega arith) ] in
+    let u = used_page old size count a n page live f.blocks b in
+    let c : old (page + 2) ≡ length (blocks_of size page live) + 1 = u.holds.count ∙ omega arith in
+    let none : blocks_of size page live ≡ [] = length_none (blocks_of size page live) (omega arith) in
+    let is : PageIs now size page (blocks_of size page live) = record { free = []; unused = λ e. none; holds = λ e. absurd (e g.class) } in
+    let blocks : BlocksFit now size count live = fits_less old now size count k (a, n) [] live b.page.below f.blocks (omega arith) (omega arith)
+    (subst (λ (q : ℕ). PageIs now size q (blocks_of size q live)) at is)
+    (stays_elsewhere old now size count k (subst (λ (q : ℕ). (e : ℕ) → (e < q) ⊎ (q + size ≤ e) → now e ≡ old e) at only)) in
+    let lists : ListsFit now size count pages.heads.items waiting page = lists_inner old now size count pages.heads.items waiting page page wide f.lists b.page only (λ ne. absurd (ne refl)) in
+    let is_class : now (page_at size k) ≡ 0 = subst (λ (q : ℕ). now q ≡ 0) at g.class in
+    let classes : ClassesFit now size count pages.small pages.lowest = classes_one old now size count pages.small pages.lowest pages.lowest k f.classes (omega arith) (subst (λ (q : ℕ). (e : ℕ) → (e < q) ⊎ (q + size ≤ e) → now e ≡ old e) at only) wide (omega arith)
+    (λ below. absurd (let up : page_at size k + size ≤ page_at size pages.lowest = pages_part size k pages.lowest below in omega arith)) in
+    fits_new pages pages m new ((a, n) ∷ live) live waiting page page 0 f (only_same pages) s blocks classes lists

@@ -1,0 +1,45 @@
+-- Pages that wait for a sweep.
+use Rattle.std.proofs.Common.{◌≡◌, ℕ, ◌+◌, inl, inr, List, [], ◌∷◌, IsTrue, nat_eq, arith, sym, ap, subst}
+use Rattle.std.proofs.lemmas.Bool.Decides.{nat_tests}
+use Rattle.std.specs.Prelude.{◌↔◌}
+use Rattle.heap_space.specs.Memory.{Memory}
+use Rattle.heap_space.specs.Extents.{Extent}
+use Rattle.size_pages.specs.PageWords.{word_in, CanStore}
+use Rattle.size_pages.specs.LiveBlocks.{page_at}
+use Rattle.size_pages.specs.PageLists.{EachPlace, IsIn, IsPage, list_number, list_of}
+use Rattle.size_pages.specs.HasBlocks.{HasBlocks}
+use Rattle.size_pages.specs.Calls.{page_of, BeginsLive}
+use Rattle.size_pages.specs.declared.Pages.{Pages}
+use Rattle.size_pages.proofs.EndLaws.{give_facts}
+use Rattle.size_pages.proofs.ChoiceLaws.{IsWaitingPage, waiting_pages}
+
+pub each_in : (P : ℕ → Type 0) (xs : List ℕ) (p : ℕ) → EachPlace P xs → IsIn p xs → P p
+each_in P [] p all i = absurd i
+each_in P (x ∷ xs) p all i = elim i [ inl e ↦ subst P (sym e) all.0 | inr j ↦ each_in P xs p all.1 j ]
+
+pub waits_exactly : (pages : Pages) (m : Memory) (page : ℕ) (live : List Extent) (waiting : List ℕ) → HasBlocks pages m live waiting → IsPage pages.page pages.count page → (word_in m (page + 6) ≡ 3) ↔ IsIn page waiting
+waits_exactly pages m page live waiting f is =
+    let w = word_in m in
+    let size = pages.page in
+    let at : page_at size is.number ≡ page = sym is.is in
+    let listed : IsIn (page_at size is.number) (f.lists.lists (list_of w (page_at size is.number))) = f.lists.listed is.number is.below (omega arith) in
+    let here : IsIn page (f.lists.lists (list_of w page)) = subst (λ (q : ℕ). IsIn q (f.lists.lists (list_of w q))) at listed in (
+      λ k. subst (λ (xs : List ℕ). IsIn page xs) f.lists.waits (subst (λ (t : ℕ). IsIn page (f.lists.lists t)) (let e : list_of w page ≡ 1 = ap (λ (t : ℕ). list_number t (w page)) k in e) here),
+      λ i. (each_in (IsWaitingPage w size pages.count) waiting page (waiting_pages w size pages.count pages.heads.items waiting f.lists) i).kind,
+    )
+
+-- the page of a live block, and the word that says whether it waits
+pub record LivePage (pages : Pages) (m : Memory) (page : ℕ) : Type 0 where
+  pub is_page : IsPage pages.page pages.count page
+  pub header : CanStore m (page + 6)
+
+pub live_page : (pages : Pages) (m : Memory) (a page : ℕ) → BeginsLive pages m a → page ≡ page_of pages.page a → LivePage pages m page
+live_page pages m a page b is =
+    let g = give_facts pages m page a b.words b.live is in
+    record { is_page = g.block.page; header = g.header 6 (omega arith) }
+
+pub nat_eq_true : (a b : ℕ) → IsTrue (nat_eq a b) → a ≡ b
+nat_eq_true a b t = grind (arith, nat_tests)
+
+pub nat_eq_same : (a b : ℕ) → a ≡ b → IsTrue (nat_eq a b)
+nat_eq_same a b e = grind (arith, nat_tests)

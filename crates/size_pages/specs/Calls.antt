@@ -1,0 +1,68 @@
+-- What the calls promise beside the live blocks and the waiting pages.
+use Rattle.std.specs.Prelude.{◌≡◌, ◌≢◌, ℕ, ◌+◌, ◌-◌, ◌/◌, ◌<◌, ◌≤◌, ◌⊎◌, ◌↔◌, List, [], length}
+use Rattle.heap_space.specs.Memory.{Memory}
+use Rattle.size_pages.specs.PageWords.{Words}
+use Rattle.heap_space.specs.Extents.{Extent, Each}
+use Rattle.size_pages.specs.LiveBlocks.{page_at, blocks_of}
+use Rattle.size_pages.specs.HasBlocks.{HasBlocks, IsLive}
+use Rattle.size_pages.specs.declared.Pages.{Pages}
+use Rattle.size_pages.specs.PageLists.{EachPlace, IsIn, IsPage, HasRoom}
+use Rattle.size_pages.specs.Growth.{AllUsed}
+
+-- where the page of a place begins
+abbrev pub page_of : ℕ → ℕ → ℕ
+page_of size a = page_at size ((a - 4294967296) / size)
+
+-- the place lies in none of the pages
+abbrev pub IsInNone : ℕ → List ℕ → ℕ → Type 0
+IsInNone size pages a = EachPlace (λ p. (a < p) ⊎ (p + size ≤ a)) pages
+
+-- no page of the class n has room, but for waiting ones
+abbrev pub NoneHasRoom : Words → ℕ → ℕ → ℕ → Type 0
+NoneHasRoom w size count n =
+    (k : ℕ) → k < count → w (page_at size k) ≡ n → w (page_at size k + 6) ≢ 3 → ¬ HasRoom w size (page_at size k)
+
+-- the block comes from a page of its class, or from the lowest unused one, where none of its class has room
+pub record TakesFrom (w : Words) (size count n p : ℕ) : Type 0 where
+  pub class : (w p ≡ n) ⊎ (w p ≡ 0)
+  pub full : w p ≡ 0 → NoneHasRoom w size count n
+  pub lowest : w p ≡ 0 → (k : ℕ) → k < count → page_at size k < p → w (page_at size k) ≢ 0
+
+-- an arena is added exactly where no page of the class has room and no page is unused
+pub record AddsArena (w : Words) (size count n : ℕ) (old new : Memory) : Type 0 where
+  pub one : (new.next_arena ≡ old.next_arena) ⊎ (new.next_arena ≡ old.next_arena + old.arena_words)
+  pub exactly : (new.next_arena ≡ old.next_arena + old.arena_words) ↔ (NoneHasRoom w size count n × AllUsed w size count)
+
+-- a page, or none
+abbrev pub IsPageOrNone : ℕ → ℕ → ℕ → Type 0
+IsPageOrNone size count p = (p ≡ 0) ⊎ IsPage size count p
+
+-- words change in the block's words 0 and 1, its page's header, and words 4 and 5 of at most three other pages
+pub record ChangesAround (old new : Words) (size count page a : ℕ) : Type 0 where
+  pub first : ℕ
+  pub second : ℕ
+  pub third : ℕ
+  pub pages : IsPageOrNone size count first × IsPageOrNone size count second × IsPageOrNone size count third
+  pub rest : (e : ℕ) → e ≢ a → e ≢ a + 1 → (e < page) ⊎ (page + 8 ≤ e) → e ≢ first + 4 → e ≢ second + 5 → e ≢ third + 5 → new e ≡ old e
+
+-- a live block begins at the place
+pub record BeginsLive (pages : Pages) (m : Memory) (a : ℕ) : Type 0 where
+  pub words : ℕ
+  pub live : IsLive pages m (a, words)
+
+-- no page waits
+pub record NoneWaits (pages : Pages) (m : Memory) : Type 0 where
+  pub live : List Extent
+  pub fits : HasBlocks pages m live []
+
+-- a live block lies in the page
+abbrev pub HasLive : ℕ → List Extent → ℕ → Type 0
+HasLive size live p = blocks_of size p live ≢ []
+
+-- a sweep begins: the pages with live blocks wait
+pub record BeginsSweep (pages : Pages) (m : Memory) (live : List Extent) : Type 0 where
+  pub waiting : List ℕ
+  pub fits : HasBlocks pages m live waiting
+  pub every : Each (λ x. IsIn (page_of pages.page x.0) waiting) live
+  pub only : EachPlace (HasLive pages.page live) waiting
+  pub most : length waiting ≤ length live

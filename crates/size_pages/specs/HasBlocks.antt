@@ -1,0 +1,65 @@
+-- How the pages and the words of their space spell the live blocks and the waiting pages.
+use Rattle.std.specs.Prelude.{◌≡◌, ℕ, ◌+◌, ◌*◌, ◌<◌, ◌≤◌, List, [], ◌∷◌, length, IsTrue}
+use Rattle.heap_space.specs.Memory.{Memory}
+use Rattle.heap_space.specs.Extents.{Extent, extents_between, lies_within}
+use Rattle.size_pages.specs.PageWords.{word_in}
+use Rattle.size_pages.specs.LiveBlocks.{BlocksFit, ClassesFit, page_at}
+use Rattle.size_pages.specs.PageLists.{EachPlace, ListsFit}
+use Rattle.size_pages.specs.declared.Pages.{Pages}
+
+-- each place is below those behind it
+abbrev pub IsRising : List ℕ → Type 0
+IsRising [] = Unit {0}
+IsRising (p ∷ ps) = EachPlace (λ q. p < q) ps × IsRising ps
+
+-- the page of that number lies in a block of the memory that begins at the arenas' places
+abbrev pub IsPlaced : Memory → ℕ → ℕ → Type 0
+IsPlaced m size k = IsTrue (lies_within (extents_between 4294967296 m.next_arena m) (page_at size k) size)
+
+-- these are the live blocks and the waiting pages, where the page at `except` is on no list for the moment
+-- and the last `spare` pages are not counted yet
+pub record HasBlocksBut (pages : Pages) (m : Memory) (live : List Extent) (waiting : List ℕ) (except spare : ℕ) : Type 0 where
+  pub size_high : pages.page ≤ 8192
+  pub arena_low : 1 ≤ pages.pages_per_arena
+  pub arena_high : pages.pages_per_arena ≤ 1024
+  pub small_low : 2 ≤ pages.small
+  pub small_high : pages.small + 8 ≤ pages.page
+  pub arena_size : m.arena_words ≡ pages.page * pages.pages_per_arena
+  pub end : m.next_arena ≡ page_at pages.page (pages.count + spare)
+  pub below : page_at pages.page (pages.count + spare) ≤ 1099511627776
+  pub placed : (k : ℕ) → k < pages.count + spare → IsPlaced m pages.page k
+  pub blocks : BlocksFit (word_in m) pages.page pages.count live
+  pub classes : ClassesFit (word_in m) pages.page pages.count pages.small pages.lowest
+  pub lists : ListsFit (word_in m) pages.page pages.count pages.heads.items waiting except
+  pub heads : 0 < pages.count → 2 * pages.small + 2 ≤ length pages.heads.items
+  pub waits : pages.waiting ≡ length waiting
+  pub rising : IsRising waiting
+
+-- these are the live blocks, in any order, and the waiting pages, by rising place
+abbrev pub HasBlocks : Pages → Memory → List Extent → List ℕ → Type 0
+HasBlocks pages m live waiting = HasBlocksBut pages m live waiting 0 0
+
+-- so it stands for some live blocks and waiting pages
+pub record StandsBut (pages : Pages) (m : Memory) (except : ℕ) : Type 0 where
+  pub live : List Extent
+  pub waiting : List ℕ
+  pub spare : ℕ
+  pub fits : HasBlocksBut pages m live waiting except spare
+
+-- the space is as the earlier calls left it, but for writes inside live blocks and changes outside the arenas
+pub record Stands (pages : Pages) (m : Memory) : Type 0 where
+  pub live : List Extent
+  pub waiting : List ℕ
+  pub fits : HasBlocks pages m live waiting
+
+-- the block is live
+pub record IsLive (pages : Pages) (m : Memory) (x : Extent) : Type 0 where
+  pub others : List Extent
+  pub waiting : List ℕ
+  pub fits : HasBlocks pages m (x ∷ others) waiting
+
+-- the numbers that the pages were made with stay
+pub record KeepsSizes (old new : Pages) : Type 0 where
+  pub page : new.page ≡ old.page
+  pub pages_per_arena : new.pages_per_arena ≡ old.pages_per_arena
+  pub small : new.small ≡ old.small

@@ -1,0 +1,12 @@
+pub mod PageWords
+pub mod LiveBlocks
+pub mod PageLists
+pub mod HasBlocks
+pub mod Steps
+pub mod Growth
+pub mod Calls
+pub mod SweepSteps
+pub mod Headers
+pub mod Listing
+pub mod Sweeping
+pub mod SlotSteps

@@ -1,0 +1,107 @@
+-- What the steps of the calls ask of the words, and what they change.
+use Rattle.std.specs.Prelude.{◌≡◌, ◌≢◌, ℕ, ◌+◌, ◌*◌, ◌<◌, ◌≤◌, ◌^◌, List, length, slice_index}
+use Rattle.heap_space.specs.Memory.{Memory}
+use Rattle.size_pages.specs.PageWords.{word_in, CanStore, HasAll}
+use Rattle.size_pages.specs.PageLists.{IsPage, IsRight, HasRoom, list_of, list_number}
+use Rattle.size_pages.specs.HasBlocks.{StandsBut, Stands, IsLive}
+use Rattle.size_pages.specs.declared.Pages.{Pages}
+
+-- the words that taking a page off a list writes
+pub record CanUnlink (m : Memory) (heads : List ℕ) (page list : ℕ) : Type 0 where
+  pub header : HasAll m page (page + 8)
+  pub first : word_in m (page + 5) ≡ 0 → list < length heads
+  pub before : word_in m (page + 5) ≢ 0 → CanStore m (word_in m (page + 5) + 4)
+  pub next : word_in m (page + 4) ≢ 0 → CanStore m (word_in m (page + 4) + 5)
+  pub apart : word_in m (page + 5) + 4 ≢ word_in m (page + 4) + 5
+
+-- the words that putting a page on a list writes
+pub record CanLink (m : Memory) (heads : List ℕ) (page list : ℕ) : Type 0 where
+  pub header : HasAll m page (page + 8)
+  pub list_in : list < length heads
+  pub next : slice_index heads list ≢ 0 → CanStore m (slice_index heads list + 5)
+  pub apart4 : slice_index heads list + 5 ≢ page + 4
+  pub apart5 : slice_index heads list ≢ page
+  pub apart6 : slice_index heads list + 5 ≢ page + 6
+
+-- the words that putting a block on its page's chain writes
+pub record CanPut (m : Memory) (page block : ℕ) : Type 0 where
+  pub header : HasAll m page (page + 8)
+  pub block_in : CanStore m block
+  pub link_in : CanStore m (block + 1)
+  pub apart : page + 8 ≤ block
+  pub count : 0 < word_in m (page + 2)
+
+-- the words that taking a block of n words from a page reads and writes
+pub record CanTake (m : Memory) (page n : ℕ) : Type 0 where
+  pub header : HasAll m page (page + 8)
+  pub count : word_in m (page + 2) < 2 ^ 63
+  pub chain_in : word_in m (page + 1) ≢ 0 → CanStore m (word_in m (page + 1))
+  pub link_in : word_in m (page + 1) ≢ 0 → CanStore m (word_in m (page + 1) + 1)
+  pub chain_apart : word_in m (page + 1) ≢ 0 → page + 8 ≤ word_in m (page + 1)
+  pub fresh_in : word_in m (page + 1) ≡ 0 → CanStore m (word_in m (page + 3))
+  pub fresh_apart : page + 8 ≤ word_in m (page + 3)
+  pub fresh_high : word_in m (page + 3) + n < 2 ^ 62
+
+-- nothing but the heads changes
+pub record IsOnlyHeads (old new : Pages) : Type 0 where
+  pub page : new.page ≡ old.page
+  pub pages_per_arena : new.pages_per_arena ≡ old.pages_per_arena
+  pub small : new.small ≡ old.small
+  pub count : new.count ≡ old.count
+  pub lowest : new.lowest ≡ old.lowest
+  pub waiting : new.waiting ≡ old.waiting
+  pub room : length new.heads.items ≡ length old.heads.items
+
+-- the page is on that list, which is not that of the waiting ones
+pub record CanTakeOff (pages : Pages) (m : Memory) (page list : ℕ) : Type 0 where
+  pub stands : Stands pages m
+  pub is_page : IsPage pages.page pages.count page
+  pub is_list : list ≡ list_of (word_in m) page
+  pub not_waiting : list ≢ 1
+
+-- the page is on no list, and its words call for that one
+pub record CanPutOn (pages : Pages) (m : Memory) (page list kind : ℕ) : Type 0 where
+  pub stands : StandsBut pages m page
+  pub is_page : IsPage pages.page pages.count page
+  pub is_list : list ≡ list_number kind (word_in m page)
+  pub not_waiting : list ≢ 1
+  pub in_heads : list < length pages.heads.items
+  pub right : IsRight kind (word_in m) pages.page page
+
+-- the block lies in the page
+pub record BlockIn (size count p a n : ℕ) : Type 0 where
+  pub page : IsPage size count p
+  pub wide : 2 ≤ n
+  pub low : p + 8 ≤ a
+  pub high : a + n ≤ p + size
+
+-- the block is the last live one of its page, which does not wait
+pub record CanEnd (pages : Pages) (m : Memory) (page a n list : ℕ) : Type 0 where
+  pub live : IsLive pages m (a, n)
+  pub off : CanTakeOff pages m page list
+  pub block : BlockIn pages.page pages.count page a n
+  pub one : word_in m (page + 2) ≡ 1
+
+-- the block is one of several of a full page
+pub record CanGiveFull (pages : Pages) (m : Memory) (page a n : ℕ) : Type 0 where
+  pub live : IsLive pages m (a, n)
+  pub off : CanTakeOff pages m page (2 * n + 1)
+  pub block : BlockIn pages.page pages.count page a n
+  pub more : 2 ≤ word_in m (page + 2)
+
+-- the page, on no list, has room for a block of n words
+pub record CanTakeUnlisted (pages : Pages) (m : Memory) (page n : ℕ) : Type 0 where
+  pub stands : StandsBut pages m page
+  pub is_page : IsPage pages.page pages.count page
+  pub class : word_in m page ≡ n
+  pub low : 2 ≤ n
+  pub small : n ≤ pages.small
+  pub room : HasRoom (word_in m) pages.page page
+
+-- the page, on no list, is unused and may get the class n
+pub record CanStart (pages : Pages) (m : Memory) (page n : ℕ) : Type 0 where
+  pub stands : StandsBut pages m page
+  pub is_page : IsPage pages.page pages.count page
+  pub unused : word_in m page ≡ 0
+  pub low : 2 ≤ n
+  pub small : n ≤ pages.small

@@ -1,0 +1,146 @@
+//! Blocks of small sizes, in pages. A page has eight header words, then blocks of one size, its
+//! class. Free blocks are chained through their own words, and pages are linked into lists through
+//! the words of their headers: one list for the unused pages, one for those that wait for a sweep,
+//! and for each class one for the pages with room and one for the full ones. Nothing is kept beside
+//! the words of the space but sizes, counts, and the head of each list.
+#![tactic(auto)]
+
+ghost use Rattle.std.specs.Prelude.{◌≡◌, ℕ, ◌+◌, ◌*◌, ◌<◌, ◌≤◌, List, [], ◌∷◌, length, IfOk, OnOk, OnErr};
+ghost use Rattle.heap_space.specs.Memory.{Memory};
+ghost use Rattle.heap_space.specs.Extents.{Extent, KeepsWords, KeepsOutside};
+ghost use Rattle.size_pages.specs.PageWords.{word_in, IsInArenas};
+ghost use Rattle.size_pages.specs.HasBlocks.{HasBlocks, Stands, IsLive, KeepsSizes};
+ghost use Rattle.size_pages.specs.Calls.{page_of, IsInNone, TakesFrom, AddsArena, ChangesAround};
+
+mod blocks;
+mod growth;
+mod links;
+mod listing;
+mod moves;
+mod page_sweep;
+mod sweep;
+#[cfg(test)]
+mod tests;
+mod words;
+
+use blocks::{FULL, WAITING, put_on_chain};
+use heap_space::Space;
+use std::alloc::{AllocError, Global};
+use words::load;
+
+/// The place of the first arena.
+pub(crate) const ARENAS: u64 = 4294967296;
+
+/// The pages of a space. Together with that space it is seen as a list of live blocks, each a place
+/// and a number of words, and a list of waiting pages. Every call that takes a space is to be given
+/// the same one. In between, words of live blocks may be written, and anything may change outside
+/// the arenas.
+#[derive(Drop)]
+pub struct Pages {
+    pub(crate) page: u64,
+    pub(crate) pages_per_arena: u64,
+    pub(crate) small: u64,
+    /// How many pages there are, in all arenas.
+    pub(crate) count: u64,
+    /// How many of the first pages are surely in use.
+    pub(crate) lowest: u64,
+    /// How many pages wait.
+    pub(crate) waiting: u64,
+    /// The first page of each list, or 0: of the unused pages, of the waiting ones, and from number
+    /// 2 n on of those with blocks of n words that have room, and of the full ones.
+    pub(crate) heads: Vec<u64>,
+}
+
+impl Pages {
+    /// No page and no live block. It takes no memory.
+    ///
+    /// A page is to have so many words, an arena so many pages, and no block more words than `small`.
+    pub fn new(alloc: Global, page: u64, pages_per_arena: u64, small: u64) -> Pages
+        requires page { (64 ≤ page) × (page ≤ 8192) }
+        requires arena { (1 ≤ pages_per_arena) × (pages_per_arena ≤ 1024) }
+        requires small { (2 ≤ small) × (small + 8 ≤ page) }
+        ensures empty { (m : Memory) → m.next_arena ≡ 4294967296 → m.arena_words ≡ page * pages_per_arena → HasBlocks result m [] [] }
+        ensures page { result.page ≡ page }
+        ensures arena { result.pages_per_arena ≡ pages_per_arena }
+        ensures small { result.small ≡ small }
+    {
+        Pages {
+            page,
+            pages_per_arena,
+            small,
+            count: 0,
+            lowest: 0,
+            waiting: 0,
+            heads: Vec::new(alloc),
+        }
+    }
+
+    /// Takes a block of n words, whose word 0 is 0.
+    ///
+    /// A page of blocks of n words that has room gives it, where one does not wait, and else the
+    /// lowest unused page is begun, and before that an arena added where none is unused. The error
+    /// is want of memory alone. It leaves everything as it was.
+    pub fn take(&mut self, space: &mut Space, n: u64) -> Result<u64, AllocError>
+        requires stands { Stands self.old space.old }
+        requires n { (2 ≤ n) × (n ≤ self.old.small) }
+        ensures taken { (live : List Extent) (waiting : List ℕ) → HasBlocks self.old space.old live waiting → IfOk result (λ a. HasBlocks self.new space.new ((a, n) ∷ live) waiting) }
+        ensures cleared { IfOk result (λ a. word_in space.new a ≡ 0) }
+        ensures elsewhere { (live : List Extent) (waiting : List ℕ) → HasBlocks self.old space.old live waiting → IfOk result (IsInNone self.old.page waiting) }
+        ensures from { IfOk result (λ a. TakesFrom (word_in space.old) self.old.page self.old.count n (page_of self.old.page a)) }
+        ensures arena { OnOk result (AddsArena (word_in space.old) self.old.page self.old.count n space.old space.new) }
+        ensures kept { (live : List Extent) (waiting : List ℕ) → HasBlocks self.old space.old live waiting → KeepsWords space.old space.new live }
+        ensures outside { KeepsOutside 4294967296 1099511627776 space.old space.new }
+        ensures arena_words { space.new.arena_words ≡ space.old.arena_words }
+        ensures next_large { space.new.next_large ≡ space.old.next_large }
+        ensures err { OnErr result (space.new ≡ space.old) }
+        ensures err_blocks { (live : List Extent) (waiting : List ℕ) → HasBlocks self.old space.old live waiting → OnErr result (HasBlocks self.new space.new live waiting) }
+        ensures stands { Stands self.new space.new }
+        ensures sizes { KeepsSizes self.old self.new }
+    {
+        self.grow_heads()?;
+        let page = self.heads[(2 * n) as usize];
+        if page != 0 {
+            self.take_off(space, page, (2 * n) as usize);
+            return Ok(self.take_unlisted(space, page, n));
+        }
+        let page = self.start_page(space, n)?;
+        Ok(self.take_unlisted(space, page, n))
+    }
+
+    /// Takes the block, of n words at a, off the live ones. It takes no memory.
+    ///
+    /// A waiting page stays so. Another page is unused at once where its last live block goes.
+    pub fn give_back(&mut self, space: &mut Space, a: u64, n: u64)
+        requires { IsLive self.old space.old (a, n) }
+        ensures given { (live : List Extent) (waiting : List ℕ) → HasBlocks self.old space.old ((a, n) ∷ live) waiting → HasBlocks self.new space.new live waiting }
+        ensures kept { (live : List Extent) (waiting : List ℕ) → HasBlocks self.old space.old ((a, n) ∷ live) waiting → KeepsWords space.old space.new live }
+        ensures around { ChangesAround (word_in space.old) (word_in space.new) self.old.page self.old.count (page_of self.old.page a) a }
+        ensures arenas { IsInArenas space.old space.new }
+        ensures stands { Stands self.new space.new }
+        ensures sizes { KeepsSizes self.old self.new }
+    {
+        let page = self.page_of(a);
+        let kind = load(space, page + 6);
+        let live = load(space, page + 2);
+        if kind == WAITING {
+            put_on_chain(space, page, a);
+            return;
+        }
+        if live == 1 {
+            self.end_page(space, page, a, n, (2 * n + (kind - 1)) as usize);
+            return;
+        }
+        if kind == FULL {
+            self.give_back_full(space, page, a, n);
+            return;
+        }
+        put_on_chain(space, page, a);
+    }
+
+    /// The number of waiting pages.
+    pub fn waiting(&self) -> u64
+        ensures { (m : Memory) (live : List Extent) (waiting : List ℕ) → HasBlocks self.now m live waiting → result ≡ length waiting }
+    {
+        self.waiting
+    }
+}

@@ -1,0 +1,158 @@
+//! The sweep of one page: its dead blocks go on the chain, and the page goes on another list.
+
+ghost use Rattle.std.specs.Prelude.{◌≡◌, ℕ, ◌+◌, ◌-◌, ◌/◌, ◌<◌, ◌≤◌, ◌∷◌, List, OnOk, OnErr};
+ghost use Rattle.heap_space.specs.Extents.{Extent};
+ghost use Rattle.size_pages.specs.PageWords.{word_in, HasAll, IsInArenas};
+ghost use Rattle.size_pages.specs.HasBlocks.{HasBlocks, HasBlocksBut, Stands, KeepsSizes};
+ghost use Rattle.size_pages.specs.PageLists.{SameSigns, Unlinks};
+ghost use Rattle.size_pages.specs.Headers.{HasHeaders};
+ghost use Rattle.size_pages.specs.SweepSteps.{IsOnlyLists};
+ghost use Rattle.size_pages.specs.Sweeping.{CanSweep, SweepsPage, is_dead};
+ghost use Rattle.size_pages.specs.SlotSteps.{CanSweepAt, CanSweepSlot, GathersBirths, HoldsNumbers, SweepsBlocks, SweepsSlot, CanRelist, Relists};
+
+use crate::Pages;
+use crate::blocks::{UNUSED, clear_page, kind_of, put_on_chain};
+use crate::links::unlink;
+use crate::words::{load, store};
+use heap_space::Space;
+use object_header::{Flag, clear, is_set};
+use std::alloc::AllocError;
+
+/// Whether a live block with this first word holds an object that was not visited.
+fn is_dead(word: u64) -> bool
+    ensures { result ≡ is_dead word }
+{
+    !is_set(word, Flag::Visited) && !is_set(word, Flag::Shadow)
+}
+
+/// How many blocks of the page were handed out ever.
+fn slots(space: &Space, page: u64, class: u64) -> u64
+    requires header { HasAll space.now page (page + 8) }
+    requires class { 0 < class }
+    requires fresh { page + 8 ≤ word_in space.now (page + 3) }
+    ensures { result ≡ (word_in space.now (page + 3) - (page + 8)) / class }
+{
+    (load(space, page + 3) - (page + 8)) / class
+}
+
+impl Pages {
+    /// Sweeps the waiting page of lowest place. The births of its objects that were not visited are
+    /// appended, and their blocks given back. The others lose the flag Visited, and reserved homes
+    /// are passed over. The page, which does not wait any more, is unused where nothing is left.
+    ///
+    /// Word 0 of each live block is to be a header without the flag Free. The error is want of
+    /// memory alone, and leaves everything as it was.
+    pub fn sweep_page(&mut self, space: &mut Space, freed: &mut Vec<u64>) -> Result<(), AllocError>
+        requires { CanSweep self.old space.old }
+        ensures swept { (live : List Extent) (page : ℕ) (rest : List ℕ) → HasHeaders self.old space.old live (page ∷ rest) → OnOk result (SweepsPage self.new space.old space.new self.old.page live page rest freed.old.items freed.new.items) }
+        ensures err { OnErr result (self.new ≡ self.old) }
+        ensures err_space { OnErr result (space.new ≡ space.old) }
+        ensures err_freed { OnErr result (freed.new.items ≡ freed.old.items) }
+        ensures arenas { IsInArenas space.old space.new }
+        ensures stands { Stands self.new space.new }
+        ensures sizes { KeepsSizes self.old self.new }
+    {
+        let page = self.heads[1];
+        self.gather(space, page, freed)?;
+        self.sweep_blocks(space, page);
+        self.relist(space, page);
+        Ok(())
+    }
+
+    /// Appends the births of the page's objects that were not visited, or nothing.
+    fn gather(&self, space: &Space, page: u64, freed: &mut Vec<u64>) -> Result<(), AllocError>
+        requires { CanSweepAt self.now space.now page }
+        ensures gathered { OnOk result (GathersBirths self.now space.now page freed.old.items freed.new.items) }
+        ensures err { OnErr result (freed.new.items ≡ freed.old.items) }
+    {
+        let before = freed.len();
+        if self.gather_births(space, page, freed).is_err() {
+            freed.truncate(before);
+            return Err(AllocError);
+        }
+        Ok(())
+    }
+
+    /// Appends the births of the page's objects that were not visited.
+    fn gather_births(
+        &self,
+        space: &Space,
+        page: u64,
+        freed: &mut Vec<u64>,
+    ) -> Result<(), AllocError>
+        requires { CanSweepAt self.now space.now page }
+        ensures gathered { OnOk result (GathersBirths self.now space.now page freed.old.items freed.new.items) }
+        ensures more { HoldsNumbers freed.old.items freed.new.items }
+    {
+        let class = load(space, page);
+        let count = slots(space, page, class);
+        for slot in 0..count {
+            let block = page + 8 + slot * class;
+            let word = load(space, block);
+            if !is_set(word, Flag::Free) && is_dead(word) {
+                freed.push(load(space, block + 1))?;
+            }
+        }
+        Ok(())
+    }
+
+    /// Gives back the blocks of the page's objects that were not visited, and takes the flag
+    /// Visited off the others.
+    fn sweep_blocks(&self, space: &mut Space, page: u64)
+        requires { CanSweepAt self.now space.old page }
+        ensures { SweepsBlocks self.now space.old space.new page }
+    {
+        let class = load(space, page);
+        let count = slots(space, page, class);
+        for slot in 0..count {
+            sweep_slot(space, page, page + 8 + slot * class);
+        }
+    }
+
+    /// Puts the page, which waits, on the list that its words call for.
+    fn relist(&mut self, space: &mut Space, page: u64)
+        requires { CanRelist self.old space.old page }
+        ensures { Relists self.old self.new space.old space.new page }
+    {
+        self.take_off_first(space, page);
+        if load(space, page + 2) == 0 {
+            self.lower(page);
+            clear_page(space, page);
+            self.put_on(space, page, 0, UNUSED);
+            return;
+        }
+        let class = load(space, page);
+        let kind = kind_of(space, page, class, page + self.page);
+        self.put_on(space, page, (2 * class + (kind - 1)) as usize, kind);
+    }
+
+    /// Takes the first waiting page off its list.
+    fn take_off_first(&mut self, space: &mut Space, page: u64)
+        requires { CanRelist self.old space.old page }
+        ensures off { (live : List Extent) (rest : List ℕ) → HasBlocks self.old space.old live (page ∷ rest) → HasBlocksBut self.new space.new live rest page 0 }
+        ensures unlinks { Unlinks (word_in space.old) (word_in space.new) self.old.heads.items self.new.heads.items page 1 }
+        ensures signs { SameSigns (word_in space.old) (word_in space.new) page }
+        ensures lists { IsOnlyLists self.old self.new }
+        ensures arenas { IsInArenas space.old space.new }
+    {
+        unlink(&mut self.heads, space, page, 1);
+        self.waiting -= 1;
+    }
+}
+
+/// Gives the block back, or takes the flag Visited off it, unless it is free.
+fn sweep_slot(space: &mut Space, page: u64, block: u64)
+    requires { CanSweepSlot space.old page block }
+    ensures swept { SweepsSlot (word_in space.old) (word_in space.new) page block }
+    ensures arenas { IsInArenas space.old space.new }
+{
+    let word = load(space, block);
+    if is_set(word, Flag::Free) {
+        return;
+    }
+    if is_dead(word) {
+        put_on_chain(space, page, block);
+        return;
+    }
+    store(space, block, clear(word, Flag::Visited));
+}
