@@ -4,6 +4,7 @@ ghost use Rattle.std.specs.Prelude.{◌≡◌, false, [], ◌∷◌, IfOk};
 ghost use Rattle.type_table.specs.declared.info.Shape.TheVariants.{Fixed};
 
 use super::*;
+use crate::heap::{write_int, write_ref};
 use std::alloc::Global;
 use std::test::Fail;
 use store_model::Settings;
@@ -36,8 +37,8 @@ fn words_are_the_heap(rt: HostRuntime) -> Result<(), Fail> {
     heap.new_object(2, 1, 0, &mut out)?;
     heap.link(0, 0, 1)?;
     assert_eq!(rt; heap.word(4), Some(5));
-    heap.write_int(0, 0, 77)?;
-    heap.write_ref(0, 0, 2)?;
+    write_int(&mut heap, 0, 0, 77)?;
+    write_ref(&mut heap, 0, 0, 2)?;
     assert_eq!(rt; heap.word(3), Some(77));
     assert_eq!(rt; heap.word(4), Some(9));
     let number = heap.get(0, 0)?;

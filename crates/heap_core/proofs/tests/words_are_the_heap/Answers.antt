@@ -43,8 +43,8 @@ write_ref-requires g c =
     let r2 = bears_next 1 c.new_object.new.self c.new_object-2.new.self _ _ r1 c.in_ok-new_object-2.ensures.born in
     let r3 = bears_next 2 c.new_object-2.new.self c.new_object-3.new.self _ _ r2 c.in_ok-new_object-3.ensures.born in
     let r4 = links c.new_object-3.new.self c.link.new.self r3 c.link.ensures.changes in
-    let r5 = writes c.link.new.self c.write_int.new.self r4 c.write_int.ensures.changes in
-    can_relink c.write_int.new.self r5
+    let r5 = writes c.link.new.self c.write_int.new.heap r4 c.write_int.ensures.changes in
+    can_relink c.write_int.new.heap r5
 
 pub get-requires : goal.get-requires
 get-requires g c =
@@ -53,9 +53,9 @@ get-requires g c =
     let r2 = bears_next 1 c.new_object.new.self c.new_object-2.new.self _ _ r1 c.in_ok-new_object-2.ensures.born in
     let r3 = bears_next 2 c.new_object-2.new.self c.new_object-3.new.self _ _ r2 c.in_ok-new_object-3.ensures.born in
     let r4 = links c.new_object-3.new.self c.link.new.self r3 c.link.ensures.changes in
-    let r5 = writes c.link.new.self c.write_int.new.self r4 c.write_int.ensures.changes in
-    let r6 = relinks c.write_int.new.self c.write_ref.new.self r5 c.write_ref.ensures.changes in
-    can_get c.write_ref.new.self r6
+    let r5 = writes c.link.new.self c.write_int.new.heap r4 c.write_int.ensures.changes in
+    let r6 = relinks c.write_int.new.heap c.write_ref.new.heap r5 c.write_ref.ensures.changes in
+    can_get c.write_ref.new.heap r6
 
 pub load-requires : goal.load-requires
 load-requires g c =
@@ -64,6 +64,6 @@ load-requires g c =
     let r2 = bears_next 1 c.new_object.new.self c.new_object-2.new.self _ _ r1 c.in_ok-new_object-2.ensures.born in
     let r3 = bears_next 2 c.new_object-2.new.self c.new_object-3.new.self _ _ r2 c.in_ok-new_object-3.ensures.born in
     let r4 = links c.new_object-3.new.self c.link.new.self r3 c.link.ensures.changes in
-    let r5 = writes c.link.new.self c.write_int.new.self r4 c.write_int.ensures.changes in
-    let r6 = relinks c.write_int.new.self c.write_ref.new.self r5 c.write_ref.ensures.changes in
-    can_load c.write_ref.new.self r6
+    let r5 = writes c.link.new.self c.write_int.new.heap r4 c.write_int.ensures.changes in
+    let r6 = relinks c.write_int.new.heap c.write_ref.new.heap r5 c.write_ref.ensures.changes in
+    can_load c.write_ref.new.heap r6
