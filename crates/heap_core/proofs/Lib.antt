@@ -7,3 +7,5 @@ pub mod Ready
 pub mod Commands
 pub mod Calls
 pub mod BirthLaws
+pub mod Runs
+pub mod TestStores

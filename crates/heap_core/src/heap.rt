@@ -272,3 +272,49 @@ impl Heap {
         }
     }
 }
+
+impl Heap {
+    /// The word at a place, if there is one.
+    #[cfg(test)]
+    pub(crate) fn word(&self, at: u64) -> Option<u64> {
+        match &self.state {
+            State::Started(parts) => parts.word(at),
+            State::Closed | State::Spent => None,
+        }
+    }
+}
+
+/// Writes a word where the object in a slot has a whole number.
+#[cfg(test)]
+pub(crate) fn write_int(heap: &mut Heap, root: u32, i: u64, word: u64) -> Result<(), HeapFault>
+    requires { CanDo heap.old (Put root i word) }
+    ensures done { result ≡ done_unless heap.old.is_spent }
+    ensures spent { IsTrue heap.old.is_spent → heap.new ≡ heap.old }
+    ensures changes { Changes heap.old heap.new (λ store. put_int store root i word) }
+{
+    match &mut heap.state {
+        State::Started(parts) => {
+            parts.write_int(root, i, word);
+            Ok(())
+        }
+        State::Closed | State::Spent => Err(HeapFault::Spent),
+    }
+}
+
+/// Writes the place of the object in a slot where the object in another has a reference.
+#[cfg(test)]
+pub(crate) fn write_ref(heap: &mut Heap, root: u32, i: u64, from: u32) -> Result<(), HeapFault>
+    requires { CanDo heap.old (Link root i from) }
+    ensures done { result ≡ done_unless heap.old.is_spent }
+    ensures spent { IsTrue heap.old.is_spent → heap.new ≡ heap.old }
+    ensures changes { Changes heap.old heap.new (λ store. put_ref store root i (held store.slots from)) }
+{
+    match &mut heap.state {
+        State::Started(parts) => {
+            let word = parts.place(from);
+            parts.write_ref(root, i, word);
+            Ok(())
+        }
+        State::Closed | State::Spent => Err(HeapFault::Spent),
+    }
+}

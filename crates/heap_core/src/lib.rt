@@ -7,3 +7,6 @@ mod parts;
 
 pub use fault::HeapFault;
 pub use heap::Heap;
+
+#[cfg(test)]
+mod tests;

@@ -1,7 +1,8 @@
 //! The parts of a heap that was started: objects in words, and root slots that lead to them.
 ghost use Rattle.std.specs.Prelude.{◌≡◌, ◌≢◌, ℕ, ◌+◌, ◌<◌, length, IfOk, OnOk, OnErr};
 ghost use Rattle.type_table.specs.Table.{value_at};
-ghost use Rattle.object_view.specs.Views.{HasObject, view_at};
+ghost use Rattle.heap_space.specs.Places.{with_word};
+ghost use Rattle.object_view.specs.Views.{HasObject, HasView, view_at};
 ghost use Rattle.store_model.specs.Checks.{AreInRange};
 ghost use Rattle.heap_core.specs.Parts.{started_parts};
 ghost use Rattle.heap_core.specs.Told.{word_in, place_in, kind_at};
@@ -219,4 +220,61 @@ impl Parts {
         self.bear(root, type_id, info, len);
         Ok(())
     }
+}
+
+/// What the tests do to the words by the space alone.
+impl Parts {
+    /// The word at a place, if there is one.
+    #[cfg(test)]
+    pub fn word(&self, at: u64) -> Option<u64> {
+        if self.space.has(at) {
+            Some(self.space.read(at))
+        } else {
+            None
+        }
+    }
+
+    /// Writes a word where the object in a slot has a whole number.
+    #[cfg(test)]
+    pub fn write_int(&mut self, root: u32, item: u64, word: u64)
+        requires object { HasObjectIn self.old root }
+        requires item { item < (layout_in self.old root).int_count }
+        ensures { self.new ≡ with_word_at self.old (int_place self.old root item) word }
+    {
+        let place = self.place(root);
+        let v = view(&self.space, &self.types, place);
+        write_int_word(&mut self.space, v, place, item, word);
+    }
+
+    /// Writes a word where the object in a slot has a reference.
+    #[cfg(test)]
+    pub fn write_ref(&mut self, root: u32, item: u64, word: u64)
+        requires object { HasObjectIn self.old root }
+        requires item { item < (layout_in self.old root).ref_count }
+        ensures { self.new ≡ with_word_at self.old (ref_place self.old root item) word }
+    {
+        let place = self.place(root);
+        let v = view(&self.space, &self.types, place);
+        write_ref_word(&mut self.space, v, place, item, word);
+    }
+}
+
+// Writes a word where the object at a place has a whole number.
+#[cfg(test)]
+fn write_int_word(space: &mut Space, v: ObjView, place: u64, item: u64, word: u64)
+    requires whole { HasView space.old v place }
+    requires item { item < v.int_count }
+    ensures { space.new ≡ record space.old { blocks = with_word space.old.blocks (v.int_start + item) word } }
+{
+    space.write(v.int_start + item, word);
+}
+
+// Writes a word where the object at a place has a reference.
+#[cfg(test)]
+fn write_ref_word(space: &mut Space, v: ObjView, place: u64, item: u64, word: u64)
+    requires whole { HasView space.old v place }
+    requires item { item < v.ref_count }
+    ensures { space.new ≡ record space.old { blocks = with_word space.old.blocks (v.ref_start + item) word } }
+{
+    space.write(v.ref_start + item, word);
 }
