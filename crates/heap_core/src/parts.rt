@@ -109,14 +109,6 @@ impl Parts {
         })
     }
 
-    /// The type id of the object in a slot.
-    pub fn type_of(&self, root: u32) -> u16
-        requires { HasObjectIn self.now root }
-        ensures { result ≡ (view_at self.now.setup.types (word_in self.now) (place_in self.now root)).type_id }
-    {
-        view(&self.space, &self.types, self.place(root)).type_id
-    }
-
     /// Puts a place into a slot, or 0.
     pub fn set_slot(&mut self, root: u32, place: u64)
         requires { root < length self.old.slots }
