@@ -7,4 +7,8 @@ pub mod GiveLaws
 pub mod WaitLaws
 pub mod BeginLaws
 pub mod ListLaws
+pub mod SweepLaws
+pub mod BlockSweepLaws
+pub mod StepLaws
+pub mod CountLaws
 pub mod FreshLaws

@@ -1,3 +1,4 @@
 pub mod HasBlocks
 pub mod Calls
 pub mod Headers
+pub mod Sweeping

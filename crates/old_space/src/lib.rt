@@ -18,6 +18,7 @@ use large_objects::Large;
 use size_pages::Pages;
 use std::alloc::{AllocError, Global};
 use store_model::Settings;
+use sweep_steps::Sweeper;
 
 /// The place of the first large block: below it lie the arenas.
 const FIRST_LARGE: u64 = 1_099_511_627_776;
@@ -128,5 +129,35 @@ impl Old {
         self.pages.live_blocks(space, out)?;
         self.large.live_blocks(space, out)?;
         Ok(())
+    }
+}
+
+impl Sweeper for Old {
+    ghost use Rattle.old_space.specs.Headers.{StandsWithHeaders};
+    ghost use Rattle.old_space.specs.Sweeping.{SweepsLowest, units_left};
+
+    ghost left = { units_left };
+
+    ghost stands = { StandsWithHeaders };
+
+    ghost steps = { SweepsLowest };
+
+    /// The number of units that wait.
+    fn waiting(&self) -> u64 {
+        // The sum fits where a space stands with both parts.
+        self.pages.waiting().saturating_add(self.large.waiting())
+    }
+
+    /// Sweeps the waiting page of lowest place, or, where no page waits, the waiting large block of
+    /// lowest place. Word 0 of each live block is to be a header without the flag Free.
+    ///
+    /// The error is want of memory alone, and changes nothing.
+    fn sweep_one(&mut self, space: &mut Space, freed: &mut Vec<u64>) -> Result<(), AllocError> {
+        if self.pages.waiting() > 0 {
+            self.pages.sweep_page(space, freed)
+        } else {
+            let _in_order = space.arena_words();
+            self.large.sweep_block(space, freed)
+        }
     }
 }
