@@ -1,8 +1,9 @@
 //! The program: it replays a script over a heap and prints the transcript.
 #![tactic(auto)]
 
+use heap_core::Heap;
 use heap_io::{DiskFiles, StdSink};
-use replay_top::{Heap, run};
+use replay_top::run;
 use std::process::ExitCode;
 use std::{env, io};
 

@@ -4,11 +4,11 @@ use Rattle.store_model.specs.EndOfRun.{IsRefused}
 use Rattle.replay_top.specs.declared.line.Stop.{Stop}
 use Rattle.replay_top.specs.declared.line.Stop.TheVariants.{Malformed, OutOfMemory, ReadFault, WriteFault}
 use Rattle.replay_top.specs.declared.top.Status.{Status}
-use Rattle.replay_top.specs.Parts.{HeapParts}
+use Rattle.heap_core.specs.Parts.{HeapSeen}
 use Rattle.replay_top.specs.Run.{EndsRun}
 use Rattle.replay_top.specs.Top.{IsComplete, stop_status}
 
-pub complete_err : (script rest before written : Option (List ℕ)) (heap : HeapParts) (stop : Stop) (status : Status) (read_rose write_rose : Type 0)
+pub complete_err : (script rest before written : Option (List ℕ)) (heap : HeapSeen) (stop : Stop) (status : Status) (read_rose write_rose : Type 0)
     → EndsRun script rest before written heap (Err stop) → status ≡ stop_status stop
     → (stop ≡ ReadFault → read_rose) → (stop ≡ WriteFault → write_rose) → IsComplete script read_rose write_rose status
 complete_err None rest before written heap stop status read_rose write_rose ends is read write = tt

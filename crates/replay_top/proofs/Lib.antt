@@ -1,12 +1,6 @@
-pub mod Changes
 pub mod Complete
-pub mod Doing
 pub mod DoneLaws
-pub mod Items
-pub mod Kept
 pub mod LineEnds
 pub mod Pieces
-pub mod Places
-pub mod Refusals
 pub mod RunEnds
 pub mod RunsOn

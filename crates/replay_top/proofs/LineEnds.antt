@@ -17,13 +17,13 @@ use Rattle.std.specs.Prelude.{All}
 use Rattle.store_model.specs.Text.{line_text, lines_text, transcript_text, IsProper}
 use Rattle.store_model.proofs.Proper.{ItemDoes-proper}
 use Rattle.store_model.specs.EndOfRun.{IsRefused}
-use Rattle.replay_top.specs.declared.session.Session.{Session}
-use Rattle.replay_top.specs.Parts.{HeapParts}
-use Rattle.replay_top.specs.Standing.{DoesItem, Answers}
+use Rattle.session_core.specs.Seen.{SessionSeen}
+use Rattle.heap_core.specs.Parts.{HeapSeen}
+use Rattle.session_core.specs.Standing.{DoesItem, Answers}
 use Rattle.replay_top.specs.Written.{WritesPart}
 use Rattle.replay_top.specs.Lines.{DoesLine, CutsLine, EndsLine, stop_of}
-use Rattle.replay_top.specs.declared.session.RunFault.{RunFault}
-use Rattle.replay_top.specs.declared.session.RunFault.TheVariants.{Malformed as MalformedItem, OutOfMemory as NoMemory}
+use Rattle.session_core.specs.declared.session.RunFault.{RunFault}
+use Rattle.session_core.specs.declared.session.RunFault.TheVariants.{Malformed as MalformedItem, OutOfMemory as NoMemory}
 use Rattle.replay_top.specs.declared.line.Stop.{Stop}
 
 reading_is : (k : ℕ) (line : List ℕ) → k ≤ 16000000 → length line ≤ 200 → reading k line ≡ as_reading (item_of line)
@@ -40,7 +40,7 @@ text_of_groups : (groups : List Group) → lines_text (group_lines groups) ≡ t
 text_of_groups [] = refl
 text_of_groups (g ∷ groups) = flat_map-append line_text g.lines (group_lines groups) ∙ ap (λ rest. lines_text g.lines ++ rest) (text_of_groups groups)
 
-pub line_done : (p : Progress) (k : ℕ) (line : List ℕ) (item : Item) (before_lines lines : List Line) (text : List ℕ) (before written : Option (List ℕ)) (session : Session) (heap : HeapParts)
+pub line_done : (p : Progress) (k : ℕ) (line : List ℕ) (item : Item) (before_lines lines : List Line) (text : List ℕ) (before written : Option (List ℕ)) (session : SessionSeen) (heap : HeapSeen)
     → k ≤ 16000000 → length line ≤ 200 → item_of line ≡ Ok item → before_lines ≡ [] → DoesItem session heap p item before_lines lines → text ≡ lines_text lines → Appends before written text → DoesLine p k line before written session heap
 line_done p k line item before_lines lines text before written session heap few short is none does text_is appends = record {
   groups = does.groups;
@@ -50,7 +50,7 @@ line_done p k line item before_lines lines text before written session heap few 
   stands = does.stands;
 }
 
-pub line_cut : (p : Progress) (k : ℕ) (line : List ℕ) (item : Item) (before_lines lines : List Line) (text : List ℕ) (before written : Option (List ℕ)) (session : Session) (heap : HeapParts)
+pub line_cut : (p : Progress) (k : ℕ) (line : List ℕ) (item : Item) (before_lines lines : List Line) (text : List ℕ) (before written : Option (List ℕ)) (session : SessionSeen) (heap : HeapSeen)
     → k ≤ 16000000 → length line ≤ 200 → item_of line ≡ Ok item → before_lines ≡ [] → DoesItem session heap p item before_lines lines → text ≡ lines_text lines → WritesPart before written text → CutsLine p k line before written session heap
 line_cut p k line item before_lines lines text before written session heap few short is none does text_is part = record {
   groups = does.groups;
@@ -60,14 +60,14 @@ line_cut p k line item before_lines lines text before written session heap few s
   stands = does.stands;
 }
 
-pub line_refused : (p : Progress) (k : ℕ) (line : List ℕ) (item : Item) (before_lines lines : List Line) (fault : RunFault) (stop : Stop) (before : Option (List ℕ)) (session : Session) (heap : HeapParts)
+pub line_refused : (p : Progress) (k : ℕ) (line : List ℕ) (item : Item) (before_lines lines : List Line) (fault : RunFault) (stop : Stop) (before : Option (List ℕ)) (session : SessionSeen) (heap : HeapSeen)
     → k ≤ 16000000 → length line ≤ 200 → item_of line ≡ Ok item → stop ≡ stop_of k fault → before_lines ≡ [] → Answers p item session heap before_lines lines (Err fault) → EndsLine p k line before before session heap (Err stop)
 line_refused p k line item before_lines lines (MalformedItem reason) stop before session heap few short is stops none answer =
     rw stops (refl, refused_by_store p k line item reason few short is answer.0, Keeps-refl before, answer.2)
 line_refused p k line item before_lines lines NoMemory stop before session heap few short is stops none answer = rw stops (Keeps-refl before)
 
 -- the lines that an item appends can be printed
-pub lines_proper : (p : Progress) (item : Item) (before_lines lines : List Line) (session : Session) (heap : HeapParts)
+pub lines_proper : (p : Progress) (item : Item) (before_lines lines : List Line) (session : SessionSeen) (heap : HeapSeen)
     → before_lines ≡ [] → DoesItem session heap p item before_lines lines → All IsProper lines
 lines_proper p item before_lines lines session heap none does =
     let is : group_lines does.groups ≡ lines = sym (does.lines ∙ ap (λ (l : List Line). l ++ group_lines does.groups) none) in

@@ -11,25 +11,28 @@ use Rattle.store_model.specs.declared.item.Reason.{Reason}
 use Rattle.store_model.specs.declared.item.Reason.TheVariants.{TooManyLines, LineTooLong}
 use Rattle.store_model.specs.Lines.{lines_of, whole_text}
 use Rattle.store_model.specs.Script.{reading}
+use Rattle.store_model.specs.Setup.{defaults}
 use Rattle.store_model.specs.Progress.{at_start}
 use Rattle.store_model.specs.EndOfRun.{IsRefused, TakesLine, Stands, StopsAt}
-use Rattle.replay_top.specs.declared.session.Session.{Session}
+use Rattle.session_core.specs.Seen.{SessionSeen}
 use Rattle.replay_top.specs.declared.line.Stop.{Stop}
 use Rattle.replay_top.specs.declared.line.Stop.TheVariants.{Malformed, OutOfMemory, ReadFault, WriteFault}
-use Rattle.replay_top.specs.Parts.{HeapParts, StandsFor, closed_heap}
+use Rattle.heap_core.specs.Parts.{HeapSeen, closed_heap}
+use Rattle.heap_core.specs.StandsFor.{StandsFor}
 use Rattle.replay_top.specs.Lines.{EndsLine}
 use Rattle.replay_top.specs.Run.{EndsRun, stop_of_reader}
 use Rattle.replay_top.proofs.DoneLaws.{IsDone-none}
-use Rattle.replay_top.proofs.RunsOn.{RunsOn, LeadsOn, closed_stands, stands_for, whole_lines_of-part}
+use Rattle.replay_top.proofs.RunsOn.{RunsOn, LeadsOn, whole_lines_of-part}
+use Rattle.session_core.proofs.Places.{closed_stands, stands_for}
 
-stands_none : (written : Option (List ℕ)) (heap : HeapParts) → heap ≡ closed_heap → Stands [] written written (StandsFor heap)
-stands_none written heap closed = rw closed (record { after = at_start; text = []; done = IsDone-none; appended = Appends-nil written; store = closed_stands })
+stands_none : (written : Option (List ℕ)) (heap : HeapSeen) → heap ≡ closed_heap → Stands [] written written (StandsFor heap)
+stands_none written heap closed = rw closed (record { after = at_start; text = []; done = IsDone-none; appended = Appends-nil written; store = closed_stands defaults })
 
-pub ends_unbegun : (script rest written : Option (List ℕ)) (heap : HeapParts) → heap ≡ closed_heap → EndsRun script rest written written heap (Err ReadFault)
+pub ends_unbegun : (script rest written : Option (List ℕ)) (heap : HeapSeen) → heap ≡ closed_heap → EndsRun script rest written written heap (Err ReadFault)
 ends_unbegun None rest written heap closed = tt
 ends_unbegun (Some script) rest written heap closed = record { taken = []; begins = inl refl; stands = stands_none written heap closed }
 
-pub ends_unread : (script rest written : Option (List ℕ)) (heap : HeapParts) (answer : Result (Unit {0}) Stop) → answer ≡ Err OutOfMemory → EndsRun script rest written written heap answer
+pub ends_unread : (script rest written : Option (List ℕ)) (heap : HeapSeen) (answer : Result (Unit {0}) Stop) → answer ≡ Err OutOfMemory → EndsRun script rest written written heap answer
 ends_unread None rest written heap answer is = tt
 ends_unread (Some script) rest written heap answer is = rw is (record { front = []; behind = lines_of script; lines = refl; after = at_start; text = []; done = IsDone-none; appended = Appends-nil written })
 
@@ -42,10 +45,10 @@ rest_at_end held None end = tt
 rest_at_end [] (Some xs) end = end
 rest_at_end (b ∷ held) (Some xs) end = cc
 
-stands_now : (script rest before written : Option (List ℕ)) (reader : ReaderState) (number : ℕ) (session : Session) (heap : HeapParts) (run : RunsOn script rest before written reader number session heap) → Stands run.lines before written (StandsFor heap)
+stands_now : (script rest before written : Option (List ℕ)) (reader : ReaderState) (number : ℕ) (session : SessionSeen) (heap : HeapSeen) (run : RunsOn script rest before written reader number session heap) → Stands run.lines before written (StandsFor heap)
 stands_now script rest before written reader number session heap run = record { after = run.at; text = run.text; done = run.done; appended = run.appended; store = stands_for session heap run.at run.stands }
 
-pub ends_done : (script rest rest_after before written : Option (List ℕ)) (reader new : ReaderState) (number : ℕ) (session : Session) (heap : HeapParts)
+pub ends_done : (script rest rest_after before written : Option (List ℕ)) (reader new : ReaderState) (number : ℕ) (session : SessionSeen) (heap : HeapSeen)
     → RunsOn script rest before written reader number session heap → IsAtEnd (ahead reader rest) → new.ended ≡ true → IsInStep new rest_after
     → EndsRun script rest_after before written heap (Ok tt)
 ends_done None rest rest_after before written reader new number session heap run end ended step = tt
@@ -79,7 +82,7 @@ too_long : (k : ℕ) (line : List ℕ) → k ≤ 16000000 → 201 ≤ length lin
 unfolding reading
 too_long k line few long = rw (le-ltb 16000000 k few, lt-ltb 200 (length line) (omega arith)) refl
 
-refuses_at : (script : List ℕ) (rest before written : Option (List ℕ)) (reader : ReaderState) (number n : ℕ) (session : Session) (heap : HeapParts) (reason : Reason)
+refuses_at : (script : List ℕ) (rest before written : Option (List ℕ)) (reader : ReaderState) (number n : ℕ) (session : SessionSeen) (heap : HeapSeen) (reason : Reason)
     → RunsOn (Some script) rest before written reader number session heap → Longer n (ahead reader rest)
     → ((line : List ℕ) → n ≤ length line → reading (number + 1) line ≡ Err reason) → StopsAt script before written (StandsFor heap) (number + 1) reason
 refuses_at script rest before written reader number n session heap reason run longer refuses =
@@ -94,7 +97,7 @@ refuses_at script rest before written reader number n session heap reason run lo
       refused = inl (refuses next.0 next.3);
     }
 
-pub ends_reading : (script rest rest_after before written : Option (List ℕ)) (reader new : ReaderState) (number : ℕ) (session : Session) (heap : HeapParts) (buf : List ℕ) (end : ReadEnd) (stop : Stop)
+pub ends_reading : (script rest rest_after before written : Option (List ℕ)) (reader new : ReaderState) (number : ℕ) (session : SessionSeen) (heap : HeapSeen) (buf : List ℕ) (end : ReadEnd) (stop : Stop)
     → RunsOn script rest before written reader number session heap → Reads reader new rest rest_after buf (Err end) → stop ≡ stop_of_reader (number + 1) end
     → EndsRun script rest_after before written heap (Err stop)
 ends_reading None rest rest_after before written reader new number session heap buf end stop run reads is = tt
@@ -112,7 +115,7 @@ ends_reading (Some script) rest rest_after before written reader new number sess
           (stands_now (Some script) rest before written reader number session heap run);
     })
 
-pub ends_line : (script rest rest_after before written written_after : Option (List ℕ)) (reader new : ReaderState) (number : ℕ) (line : List ℕ) (session session_after : Session) (heap heap_after : HeapParts) (stop : Stop)
+pub ends_line : (script rest rest_after before written written_after : Option (List ℕ)) (reader new : ReaderState) (number : ℕ) (line : List ℕ) (session session_after : SessionSeen) (heap heap_after : HeapSeen) (stop : Stop)
     (run : RunsOn script rest before written reader number session heap)
     → HandsOut reader new (ahead reader rest) (ahead new rest_after) line
     → EndsLine run.at (number + 1) line written written_after session_after heap_after (Err stop)

@@ -6,18 +6,15 @@ use Rattle.std.proofs.KnownBytes.{Appends-trans, Appends-nil, Consumes-trans}
 use Rattle.std.proofs.lemmas.Bool.{and_parts, not-true, both_ways}
 use Rattle.std.proofs.lemmas.Grind.{flat_map-append}
 use Rattle.store_model.specs.Lines.{lines_of, whole_lines_of, in_front_of_first, whole_text}
-use Rattle.type_table.specs.declared.info.TypeInfo.{TypeInfo}
-use Rattle.type_table.specs.Table.{Table}
-use Rattle.store_model.specs.declared.settings.Settings.{Settings}
 use Rattle.store_model.specs.Setup.{defaults}
-use Rattle.store_model.specs.Store.{empty_store}
 use Rattle.store_model.specs.Progress.{Progress, at_start}
 use Rattle.store_model.specs.EndOfRun.{IsDone}
 use Rattle.store_model.specs.Text.{transcript_text}
 use Rattle.script_text.specs.Reader.{ReaderState, ahead, IsInStep, HandsOut, Begins, is_one_line}
-use Rattle.replay_top.specs.declared.session.Session.{Session}
-use Rattle.replay_top.specs.Parts.{HeapParts, StandsFor, StandsForIf, closed_heap, store_of}
-use Rattle.replay_top.specs.Standing.{HasHeapIf, StandsAt, progress_from, store_in}
+use Rattle.session_core.specs.Seen.{SessionSeen}
+use Rattle.heap_core.specs.Parts.{HeapSeen, closed_heap}
+use Rattle.session_core.proofs.Places.{stands_first}
+use Rattle.session_core.specs.Standing.{StandsAt}
 use Rattle.replay_top.specs.Lines.{DoesLine}
 use Rattle.replay_top.proofs.DoneLaws.{IsDone-push, IsDone-none}
 
@@ -27,7 +24,7 @@ LeadsOn None rest lines = ⊤
 LeadsOn (Some script) None lines = ⊥
 LeadsOn (Some script) (Some rest) lines = lines_of script ≡ lines ++ lines_of rest
 
-pub record RunsOn (script rest before written : Option (List ℕ)) (reader : ReaderState) (number : ℕ) (session : Session) (heap : HeapParts) : Type 0 where
+pub record RunsOn (script rest before written : Option (List ℕ)) (reader : ReaderState) (number : ℕ) (session : SessionSeen) (heap : HeapSeen) : Type 0 where
   pub lines : List (List ℕ)
   pub at : Progress
   pub text : List ℕ
@@ -91,7 +88,7 @@ bytes-push script here there false false lines line bytes end leads begins taken
     subst P (sym (whole_text-push lines line)) (Consumes-trans script here there (whole_text lines) (line ++ 10 ∷ []) (bytes refl) taken)
 
 -- one line more
-pub runs_on : (script rest rest_after before written written_after : Option (List ℕ)) (reader new : ReaderState) (number : ℕ) (line : List ℕ) (session session_after : Session) (heap heap_after : HeapParts)
+pub runs_on : (script rest rest_after before written written_after : Option (List ℕ)) (reader new : ReaderState) (number : ℕ) (line : List ℕ) (session session_after : SessionSeen) (heap heap_after : HeapSeen)
     (run : RunsOn script rest before written reader number session heap)
     → HandsOut reader new (ahead reader rest) (ahead new rest_after) line
     → IsInStep new rest_after
@@ -112,19 +109,6 @@ runs_on script rest rest_after before written written_after reader new number li
   in_step = step;
 }
 
-pub closed_stands : StandsFor closed_heap (empty_store defaults)
-closed_stands = (refl, defaults, refl)
-
-stands_in : (types : Option (Table TypeInfo)) (settings : Settings) (heap : HeapParts) → HasHeapIf types settings heap → StandsFor heap (store_in types settings heap)
-stands_in (Some types) settings heap closed = rw closed (refl, settings, refl)
-stands_in None settings heap has = let P : Bool → Type 0 = λ b. StandsForIf b heap (store_of heap) in subst P (sym has.0) refl
-
--- where a session and its heap stand, the heap stands for the store
-pub stands_for : (session : Session) (heap : HeapParts) (at : Progress) → StandsAt session heap at → StandsFor heap at.store
-stands_for session heap at stands =
-    let P : Progress → Type 0 = λ p. StandsFor heap p.store in
-    subst P (sym stands.progress) (stands_in session.types session.settings heap stands.has_heap)
-
 leads_from : (script : Option (List ℕ)) → LeadsOn script (prepend_known [] script) []
 leads_from None = tt
 leads_from (Some script) = refl
@@ -133,25 +117,18 @@ consumes_none : (script : Option (List ℕ)) → Consumes script (prepend_known 
 consumes_none None = tt
 consumes_none (Some script) = refl
 
-start_progress : (settings : Settings) (names : List ℕ) (types : Option (Table TypeInfo))
-    → settings ≡ defaults → names ≡ [] → types ≡ Some [] → at_start ≡ progress_from settings names types closed_heap
-start_progress settings names types default none empty = rw (default, none, empty) refl
-
 -- the beginning of a run
-pub runs_from : (script rest written : Option (List ℕ)) (reader : ReaderState) (session : Session)
+pub runs_from : (script rest written : Option (List ℕ)) (reader : ReaderState) (session : SessionSeen)
     → rest ≡ script → reader ≡ record { held = []; count = 0; ended = false }
-    → session.settings ≡ defaults → session.names.items ≡ [] → session.types ≡ Some []
+    → session ≡ record { settings = defaults; names = []; types = Some [] }
     → RunsOn script rest written written reader 0 session closed_heap
-runs_from script rest written reader session same new default none empty = rw (same, new) (record {
+runs_from script rest written reader session same new first = rw (same, new) (record {
   lines = [];
   at = at_start;
   text = [];
   done = IsDone-none;
   appended = Appends-nil written;
-  stands = record {
-    has_heap = subst (λ (t : Option (Table TypeInfo)). HasHeapIf t session.settings closed_heap) (sym empty) refl;
-    progress = start_progress session.settings session.names.items session.types default none empty;
-  };
+  stands = stands_first session first;
   count = refl;
   number_is = refl;
   leads = leads_from script;

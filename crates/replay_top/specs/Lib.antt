@@ -1,9 +1,4 @@
-pub mod Doing
-pub mod Kept
 pub mod Lines
-pub mod Parts
 pub mod Run
-pub mod Seen
-pub mod Standing
 pub mod Top
 pub mod Written

@@ -7,11 +7,11 @@ use Rattle.store_model.specs.Text.{transcript_text}
 use Rattle.store_model.specs.EndOfRun.{IsRefused, TakesLine}
 use Rattle.replay_top.specs.declared.line.Stop.{Stop}
 use Rattle.replay_top.specs.declared.line.Stop.TheVariants.{Malformed, OutOfMemory, ReadFault, WriteFault}
-use Rattle.replay_top.specs.declared.session.RunFault.{RunFault}
-use Rattle.replay_top.specs.declared.session.RunFault.TheVariants.{Malformed as MalformedItem, OutOfMemory as NoMemory}
-use Rattle.replay_top.specs.declared.session.Session.{Session}
-use Rattle.replay_top.specs.Parts.{HeapParts}
-use Rattle.replay_top.specs.Standing.{StandsAt}
+use Rattle.session_core.specs.declared.session.RunFault.{RunFault}
+use Rattle.session_core.specs.declared.session.RunFault.TheVariants.{Malformed as MalformedItem, OutOfMemory as NoMemory}
+use Rattle.session_core.specs.Seen.{SessionSeen}
+use Rattle.heap_core.specs.Parts.{HeapSeen}
+use Rattle.session_core.specs.Standing.{StandsAt}
 use Rattle.replay_top.specs.Written.{WritesPart}
 
 -- how a run stops where the item of line k is not done
@@ -20,7 +20,7 @@ stop_of k (MalformedItem reason) = Malformed k reason
 stop_of k NoMemory = OutOfMemory
 
 -- The line was done, and its text is written.
-pub record DoesLine (at : Progress) (k : ℕ) (line : List ℕ) (before written : Option (List ℕ)) (session : Session) (heap : HeapParts) : Type 0 where
+pub record DoesLine (at : Progress) (k : ℕ) (line : List ℕ) (before written : Option (List ℕ)) (session : SessionSeen) (heap : HeapSeen) : Type 0 where
   pub groups : List Group
   pub after : Progress
   pub takes : TakesLine at k line groups after
@@ -28,7 +28,7 @@ pub record DoesLine (at : Progress) (k : ℕ) (line : List ℕ) (before written 
   pub stands : StandsAt session heap after
 
 -- The line was done, and a part of its text is written.
-pub record CutsLine (at : Progress) (k : ℕ) (line : List ℕ) (before written : Option (List ℕ)) (session : Session) (heap : HeapParts) : Type 0 where
+pub record CutsLine (at : Progress) (k : ℕ) (line : List ℕ) (before written : Option (List ℕ)) (session : SessionSeen) (heap : HeapSeen) : Type 0 where
   pub groups : List Group
   pub after : Progress
   pub takes : TakesLine at k line groups after
@@ -36,7 +36,7 @@ pub record CutsLine (at : Progress) (k : ℕ) (line : List ℕ) (before written 
   pub stands : StandsAt session heap after
 
 -- what came of line k, by the answer
-abbrev pub EndsLine : Progress → ℕ → List ℕ → Option (List ℕ) → Option (List ℕ) → Session → HeapParts → Result (Unit {0}) Stop → Type 0
+abbrev pub EndsLine : Progress → ℕ → List ℕ → Option (List ℕ) → Option (List ℕ) → SessionSeen → HeapSeen → Result (Unit {0}) Stop → Type 0
 EndsLine at k line before written session heap (Ok done) = DoesLine at k line before written session heap
 EndsLine at k line before written session heap (Err (Malformed number reason)) =
     (number ≡ k) × IsRefused at k line reason × Keeps before written × StandsAt session heap at

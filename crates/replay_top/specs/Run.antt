@@ -8,7 +8,8 @@ use Rattle.store_model.specs.Lines.{lines_of}
 use Rattle.store_model.specs.EndOfRun.{Stands, StopsAt, StopsReading, StopsWriting, StopsSomewhere}
 use Rattle.replay_top.specs.declared.line.Stop.{Stop}
 use Rattle.replay_top.specs.declared.line.Stop.TheVariants.{Malformed, OutOfMemory, ReadFault, WriteFault}
-use Rattle.replay_top.specs.Parts.{HeapParts, StandsFor}
+use Rattle.heap_core.specs.Parts.{HeapSeen}
+use Rattle.heap_core.specs.StandsFor.{StandsFor}
 
 -- how a run stops where line k is not read
 abbrev pub stop_of_reader : ℕ → ReadEnd → Stop
@@ -17,7 +18,7 @@ stop_of_reader k TooLong = Malformed k LineTooLong
 stop_of_reader k ReaderFault = ReadFault
 
 -- What stands by the answer, where the bytes of the file are told. `rest` is what is left of the file.
-abbrev pub EndsRun : Option (List ℕ) → Option (List ℕ) → Option (List ℕ) → Option (List ℕ) → HeapParts → Result (Unit {0}) Stop → Type 0
+abbrev pub EndsRun : Option (List ℕ) → Option (List ℕ) → Option (List ℕ) → Option (List ℕ) → HeapSeen → Result (Unit {0}) Stop → Type 0
 EndsRun None rest before written heap answer = ⊤
 EndsRun (Some script) rest before written heap (Ok done) = Stands (lines_of script) before written (StandsFor heap) × IsAtEnd rest
 EndsRun (Some script) rest before written heap (Err (Malformed k reason)) = StopsAt script before written (StandsFor heap) k reason

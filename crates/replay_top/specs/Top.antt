@@ -8,7 +8,7 @@ use Rattle.replay_top.specs.declared.line.Stop.{Stop}
 use Rattle.replay_top.specs.declared.line.Stop.TheVariants as stops
 use Rattle.replay_top.specs.declared.top.Status.{Status}
 use Rattle.replay_top.specs.declared.top.Status.TheVariants as statuses
-use Rattle.replay_top.specs.Parts.{HeapParts}
+use Rattle.heap_core.specs.Parts.{HeapSeen}
 use Rattle.replay_top.specs.Written.{WritesPart}
 use Rattle.replay_top.specs.Run.{EndsRun}
 
@@ -44,7 +44,7 @@ abbrev pub Tells : Option (List ℕ) → Option (List ℕ) → ℕ → ℕ → L
 Tells before told faults_before faults text = Appends before told text ⊎ (Rose faults_before faults × WritesPart before told text)
 
 -- What stands after `replay FILE`, by the status: one answer of the replay has this status and this text.
-pub record Replays (script rest before written before_told told : Option (List ℕ)) (faults_before faults : ℕ) (heap : HeapParts) (status : Status) : Type 0 where
+pub record Replays (script rest before written before_told told : Option (List ℕ)) (faults_before faults : ℕ) (heap : HeapSeen) (status : Status) : Type 0 where
   pub answer : Result (Unit {0}) Stop
   pub status_is : status ≡ answer_status answer
   pub ends : EndsRun script rest before written heap answer

@@ -3,15 +3,15 @@ ghost use Rattle.std.specs.Prelude.{◌≡◌, ◌≤◌, length, IsErrOf};
 ghost use Rattle.heap_io.specs.Causes.{Rose, HasCause};
 ghost use Rattle.store_model.specs.Progress.{Progress};
 ghost use Rattle.store_model.specs.Script.{bad_reason};
-ghost use Rattle.replay_top.specs.Standing.{HasHeap, StandsAt};
+ghost use Rattle.session_core.specs.Standing.{IsPlaced, StandsAt};
 ghost use Rattle.replay_top.specs.Written.{Writes};
 ghost use Rattle.replay_top.specs.Lines.{EndsLine, stop_of};
 
-use crate::heap::Heap;
-use crate::session::{RunFault, Session};
+use heap_core::Heap;
 use heap_io::{Failed, Sink};
 use line_text::print_lines;
 use script_text::parse_line;
+use session_core::{RunFault, Session};
 use std::alloc::{AllocError, Global};
 use store_model::{BadLine, Reason};
 
@@ -57,7 +57,7 @@ pub(crate) fn do_line<K: Sink>(
 ) -> Result<(), Stop>
     requires number { number ≤ 16000000 }
     requires line { length line.now ≤ 200 }
-    requires heap { HasHeap session.old heap.old }
+    requires placed { IsPlaced session.old heap.old }
     ensures ends { (at : Progress) → StandsAt session.old heap.old at →
         EndsLine at number line.now (K.written out.old) (K.written out.new) session.new heap.new result }
     ensures later { K.faults out.old ≤ K.faults out.new }

@@ -1,14 +1,14 @@
 //! A whole script, from its first line on.
 ghost use Rattle.std.specs.Prelude.{◌≡◌, ◌≤◌, IsTrue, IsErrOf};
 ghost use Rattle.heap_io.specs.Causes.{Rose};
-ghost use Rattle.replay_top.specs.Parts.{closed_heap};
+ghost use Rattle.heap_core.specs.Parts.{closed_heap};
 ghost use Rattle.replay_top.specs.Run.{EndsRun, stop_of_reader};
 
-use crate::heap::Heap;
 use crate::line::{Stop, do_line};
-use crate::session::Session;
+use heap_core::Heap;
 use heap_io::{Files, Sink};
 use script_text::{LineReader, ReadEnd};
+use session_core::Session;
 use std::alloc::Global;
 use store_model::Reason;
 

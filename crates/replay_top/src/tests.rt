@@ -1,6 +1,7 @@
 //! What no clause says: that runs come to their ends with ample memory, and the texts that they write.
 
-use crate::{Heap, Status, run};
+use crate::{Status, run};
+use heap_core::Heap;
 use heap_io::{MemFiles, MemSink, NamedFile};
 use std::alloc::{AllocError, Global};
 use std::test::Fail;

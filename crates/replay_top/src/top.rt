@@ -4,13 +4,13 @@ ghost use Rattle.std.specs.Option.{ForSome};
 ghost use Rattle.std.specs.Io.KnownBytes.{Keeps};
 ghost use Rattle.heap_io.specs.Causes.{Rose};
 ghost use Rattle.store_model.specs.ErrorText.{usage_text};
-ghost use Rattle.replay_top.specs.Parts.{closed_heap};
+ghost use Rattle.heap_core.specs.Parts.{closed_heap};
 ghost use Rattle.replay_top.specs.Top.{asked, stop_status, Tells, Replays, IsComplete};
 
-use crate::heap::Heap;
 use crate::line::Stop;
 use crate::script::replay;
 use crate::tell::{tell, tell_stop};
+use heap_core::Heap;
 use heap_io::{Files, Sink};
 use std::alloc::Global;
 

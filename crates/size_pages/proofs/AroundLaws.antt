@@ -1,5 +1,5 @@
 -- Which words a block that is given back changes, and the sizes that stay.
-use Rattle.std.proofs.Common.{◌≡◌, ◌≢◌, ℕ, ◌+◌, ◌-◌, ◌*◌, ◌/◌, ◌<◌, ◌≤◌, ◌⊎◌, inl, inr, min, List, ◌∷◌, slice_index, arith, ◌∙◌, ap}
+use Rattle.std.proofs.Common.{sym, subst, refl, ◌≡◌, ◌≢◌, ℕ, ◌+◌, ◌-◌, ◌*◌, ◌/◌, ◌<◌, ◌≤◌, ◌⊎◌, inl, inr, min, List, ◌∷◌, slice_index, arith, ◌∙◌, ap}
 use Rattle.std.proofs.lemmas.Nat.{div-mul-add}
 use Rattle.heap_space.specs.Memory.{Memory}
 use Rattle.heap_space.specs.Extents.{Extent, KeepsWords}
@@ -7,19 +7,32 @@ use Rattle.size_pages.specs.PageWords.{Words, word_in, IsInArenas, GivesBack, Cl
 use Rattle.size_pages.specs.LiveBlocks.{page_at}
 use Rattle.size_pages.specs.PageLists.{IsPage, Unlinks, Links, SameSigns}
 use Rattle.size_pages.specs.HasBlocks.{HasBlocks, KeepsSizes}
-use Rattle.size_pages.specs.Steps.{CanEnd, CanGiveFull, IsOnlyHeads}
+use Rattle.size_pages.specs.Steps.{CanEnd, CanGiveFull, IsOnlyHeads, CanPutOn, CanTakeOff}
 use Rattle.size_pages.specs.Growth.{IsLowered}
-use Rattle.size_pages.specs.Calls.{ChangesAround}
+use Rattle.size_pages.specs.Calls.{ChangesAround, IsPageOrNone}
+use Rattle.size_pages.proofs.ListMoves.{not_zero, first_page}
+use Rattle.size_pages.proofs.FitsLaws.{Beside, beside}
 use Rattle.size_pages.specs.declared.Pages.{Pages}
 use Rattle.size_pages.proofs.EndLaws.{IsOff, end_fits, full_fits, same_block, block_after}
 use Rattle.size_pages.proofs.KeepLaws.{keeps_then, off_keeps, links_keep, cleared_keeps, given_keeps}
 
+-- the pages beside a listed page, and the first page of a list
+pub beside_off : (pages : Pages) (m : Memory) (page list : ℕ) → CanTakeOff pages m page list → Beside (word_in m) pages.page pages.count page
+beside_off pages m page list c = beside (word_in m) pages.page pages.count page list pages.heads.items c.stands.waiting 0 c.stands.fits.lists c.is_page (not_zero pages.page pages.count page c.is_page) c.is_list
+
+pub head_page : (pages after : Pages) (m : Memory) (page list kind : ℕ) → CanPutOn after m page list kind → after.page ≡ pages.page → after.count ≡ pages.count → IsPageOrNone pages.page pages.count (slice_index after.heads.items list)
+head_page pages after m page list kind c size count =
+    let f = c.stands.fits.lists in
+    let first : IsPageOrNone after.page after.count (slice_index after.heads.items list) = subst (IsPageOrNone after.page after.count) (sym (f.heads_are list)) (first_page after.page after.count (f.lists list) (f.pages list)) in
+    subst (λ (s : ℕ). IsPageOrNone s pages.count (slice_index after.heads.items list)) size (subst (λ (k : ℕ). IsPageOrNone after.page k (slice_index after.heads.items list)) count first)
+
 -- a page that moves from one list to another, with a change to its own words or the block's in between
-pub around_moved : (m m2 m3 m4 : Words) (heads after heads2 after2 : List ℕ) (page a list list2 kind : ℕ) → Unlinks m m2 heads after page list → ((e : ℕ) → e ≢ a → e ≢ a + 1 → (e < page) ⊎ (page + 8 ≤ e) → m3 e ≡ m2 e) → Links m3 m4 heads2 after2 page list2 kind → ChangesAround m m4 page a
-around_moved m m2 m3 m4 heads after heads2 after2 page a list list2 kind u same l = record {
+pub around_moved : (m m2 m3 m4 : Words) (heads after heads2 after2 : List ℕ) (size count page a list list2 kind : ℕ) → Beside m size count page → IsPageOrNone size count (slice_index heads2 list2) → Unlinks m m2 heads after page list → ((e : ℕ) → e ≢ a → e ≢ a + 1 → (e < page) ⊎ (page + 8 ≤ e) → m3 e ≡ m2 e) → Links m3 m4 heads2 after2 page list2 kind → ChangesAround m m4 size count page a
+around_moved m m2 m3 m4 heads after heads2 after2 size count page a list list2 kind b head u same l = record {
   first = m (page + 5);
   second = m (page + 4);
   third = slice_index heads2 list2;
+  pages = (b.before, b.next, head);
   rest = λ e n1 n2 out n3 n4 n5.
       let off : (i : ℕ) → i < 8 → e ≢ page + i = λ i small. elim out [ inl x ↦ omega arith | inr y ↦ omega arith ] in
       l.rest e (off 4 (omega arith)) (off 5 (omega arith)) (off 6 (omega arith)) n5 ∙ same e n1 n2 out ∙ u.rest e n3 n4;
@@ -37,8 +50,8 @@ given_around m n page a g e n1 n2 out = elim out [
   | inr y ↦ g.rest e (omega arith) (omega arith) n1 n2
 ]
 
-pub around_given : (m n : Words) (page a : ℕ) → GivesBack m n page a → ChangesAround m n page a
-around_given m n page a g = record { first = 0; second = 0; third = 0; rest = λ e n1 n2 out n3 n4 n5. given_around m n page a g e n1 n2 out }
+pub around_given : (m n : Words) (size count page a : ℕ) → GivesBack m n page a → ChangesAround m n size count page a
+around_given m n size count page a g = record { first = 0; second = 0; third = 0; pages = (inl refl, inl refl, inl refl); rest = λ e n1 n2 out n3 n4 n5. given_around m n page a g e n1 n2 out }
 
 pub sizes_heads : (a b : Pages) → IsOnlyHeads a b → KeepsSizes a b
 sizes_heads a b h = record { page = h.page; pages_per_arena = h.pages_per_arena; small = h.small }

@@ -106,6 +106,7 @@ adds_pages pages after m new st o n l =
       kept = λ live waiting f. keeps_then m (with_arena m) new live (keeps_same m (with_arena m) live same) (l.kept live waiting 0 (arena_spare pages m o n live waiting f));
       next = l.arenas.next_arena;
       size = l.arenas.arena_words;
+      large = l.arenas.next_large;
       more = omega arith;
       unused = l.classes pages.count ∙ new_unused pages m o n st.live st.waiting st.fits pages.count (omega arith) (omega arith);
       classes = λ k. l.classes k ∙ same (page_at pages.page k);
@@ -151,6 +152,8 @@ begins_old pages after m new page n st u can started kept low counts s =
       lower = λ k below less. low.lower k (elim (cases_lt k low.is_page.number) [ inl a ↦ a | inr b ↦ absurd (let up : page_at size low.is_page.number ≤ page_at size k = page_mono size low.is_page.number k b in omega arith) ]);
       one = inl same;
       exactly = (λ e. absurd (omega arith), λ all. absurd (all u.number u.below u.unused));
+      size = s.arena_words;
+      large = s.next_large;
       outside = arenas_outside m new s;
     }
 
@@ -169,5 +172,7 @@ begins_new pages p1 after m m1 new page n st all a can started kept low counts s
       lower = λ k below less. all k below;
       one = inr next;
       exactly = (λ e. all, λ e. next);
+      size = s.arena_words ∙ a.size;
+      large = s.next_large ∙ a.large;
       outside = outside_then m m1 new a.outside (arenas_outside m1 new s);
     }

@@ -1,5 +1,5 @@
 -- A sweep begins: each page with live blocks waits.
-use Rattle.std.proofs.Common.{◌≡◌, ◌≢◌, ℕ, zero, ◌+◌, ◌-◌, ◌*◌, ◌/◌, ◌<◌, ◌≤◌, ◌⊎◌, inl, inr, Bool, true, false, cond, ◌==◌, nat_le, if◌then◌else◌, List, [], ◌∷◌, length, arith, refl, sym, ◌∙◌, ap, subst}
+use Rattle.std.proofs.Common.{◌≡◌, ◌≢◌, ℕ, ◌+◌, ◌*◌, ◌<◌, ◌≤◌, inl, inr, Bool, true, false, cond, ◌==◌, nat_le, if◌then◌else◌, List, [], ◌∷◌, length, arith, refl, sym, ◌∙◌, ap, subst}
 use Rattle.std.proofs.lemmas.Bool.{cases_lt}
 use Rattle.std.proofs.lemmas.Bool.Decides.{eqb_tells, nat_tests}
 use Rattle.std.specs.List.{filter}
@@ -7,13 +7,13 @@ use Rattle.heap_space.specs.Memory.{Memory}
 use Rattle.heap_space.specs.Extents.{Extent, Each, KeepsWords}
 use Rattle.heap_space.proofs.ExtentLaws.{Each-map, Each-both}
 use Rattle.size_pages.specs.PageWords.{Words, word_in, IsInArenas, PageHolds, Chain}
-use Rattle.size_pages.specs.LiveBlocks.{page_at, blocks_of, in_page, BlocksFit, PageIs, IsInPages}
-use Rattle.size_pages.specs.PageLists.{EachPlace, IsIn, IsPage, IsRight, IsListedRightly}
+use Rattle.size_pages.specs.LiveBlocks.{page_at, blocks_of, in_page, PageIs, IsInPages}
+use Rattle.size_pages.specs.PageLists.{EachPlace, IsIn, IsPage, IsListedRightly}
 use Rattle.size_pages.specs.HasBlocks.{HasBlocks, IsRising, KeepsSizes}
 use Rattle.size_pages.specs.Calls.{page_of, NoneWaits, HasLive, BeginsSweep}
 use Rattle.size_pages.specs.SweepSteps.{CanWait, WaitsMore}
 use Rattle.size_pages.specs.declared.Pages.{Pages}
-use Rattle.size_pages.proofs.FitLaws.{pages_apart, pages_part, filter_takes, in_page_true}
+use Rattle.size_pages.proofs.FitLaws.{pages_part, in_page_true}
 use Rattle.size_pages.proofs.ListLaws.{places_map, places_both}
 use Rattle.size_pages.proofs.FitsLaws.{page_mono}
 use Rattle.size_pages.proofs.GiveLaws.{page_number}
@@ -118,7 +118,6 @@ waits_next old new last m after final k n h g =
           (y.1, h.used)
     ]
 
--- a page in use that does not wait has a live block
 chain_none : (w : Words) (n : ℕ) (free : List Extent) → Chain w n 0 free → length free ≡ 0
 chain_none w n [] c = refl
 chain_none w n (x ∷ xs) c = absurd (omega (arith, c.1))
@@ -128,15 +127,15 @@ none_live w size p free h none =
     let f : length free ≡ 0 = chain_none w (w p) free (subst (λ (q : ℕ). Chain w (w p) q free) none h.chain) in
     sym h.all ∙ ap (λ (k : ℕ). (k + 0) * w p + (p + 8)) f ∙ omega arith
 
-in_use : (pages : Pages) (m : Memory) (live : List Extent) (k : ℕ) → HasBlocks pages m live [] → k < pages.count → word_in m (page_at pages.page k) ≢ 0 → HasLive pages.page live (page_at pages.page k)
-in_use pages m live k f below used none =
+-- a page in use that does not wait has a live block
+pub HasBlocks_used : (pages : Pages) (m : Memory) (live : List Extent) (waiting : List ℕ) (k : ℕ) → HasBlocks pages m live waiting → k < pages.count → word_in m (page_at pages.page k) ≢ 0 → word_in m (page_at pages.page k + 6) ≢ 3 → HasLive pages.page live (page_at pages.page k)
+HasBlocks_used pages m live waiting k f below used no3 none =
     let size = pages.page in
     let p = page_at size k in
     let w = word_in m in
     let is : PageIs w size p [] = subst (λ (bs : List Extent). PageIs w size p bs) none (f.blocks.pages k below) in
     let h = is.holds used in
     let right : IsListedRightly w size p = f.lists.rightly k below (omega arith) in
-    let no3 : w (p + 6) ≢ 3 = none_three pages m live k f below in
     let no0 : w (p + 6) ≢ 0 = λ e. used (right.unused e) in
     let known : w (p + 6) ≤ 3 = right.known in
     let count : w (p + 2) ≡ 0 = h.count in
@@ -226,7 +225,7 @@ sweep_begun old new m after h live f =
     let same : new.page ≡ size = h.sizes.page in
     let all : EachPlace (IsPage new.page new.count) h.waiting = subst (EachPlace (IsPage new.page new.count)) g.lists.waits (g.lists.pages 1) in
     let was : EachPlace (IsPage size old.count) h.waiting = subst (λ (s : ℕ). EachPlace (IsPage s old.count) h.waiting) same (subst (λ (n : ℕ). EachPlace (IsPage new.page n) h.waiting) h.count all) in
-    let only : EachPlace (HasLive size live) h.waiting = places_both (IsPage size old.count) (λ q. word_in m q ≢ 0) (HasLive size live) (λ q is used. subst (λ (p : ℕ). HasLive size live p) (sym is.is) (in_use old m live is.number f is.below (λ e. used (ap (word_in m) is.is ∙ e)))) h.waiting was h.used in
+    let only : EachPlace (HasLive size live) h.waiting = places_both (IsPage size old.count) (λ q. word_in m q ≢ 0) (HasLive size live) (λ q is used. subst (λ (p : ℕ). HasLive size live p) (sym is.is) (HasBlocks_used old m live [] is.number f is.below (λ e. used (ap (word_in m) is.is ∙ e)) (none_three old m live is.number f is.below))) h.waiting was h.used in
     let every : Each (λ x. IsIn (page_of size x.0) h.waiting) live =
     Each-map (λ x. (is : IsInPages size old.count x) × (word_in m (page_at size is.page) ≢ 0)) (λ x. IsIn (page_of size x.0) h.waiting)
     (λ x u. subst (λ (p : ℕ). IsIn p h.waiting) (sym (own_page old m live x f u.0)) (h.waits u.0.page (omega arith) u.0.below u.1)) live (pages_in_use old m live f) in

@@ -12,8 +12,9 @@ use Rattle.heap_space.proofs.ExtentLaws.{lies_in_one-between}
 use Rattle.size_pages.specs.PageWords.{Words, word_in, CanStore, HasAll, IsInArenas}
 use Rattle.size_pages.specs.LiveBlocks.{page_at, BlocksFit, ClassesFit}
 use Rattle.size_pages.specs.PageLists.{EachPlace, IsIn, first_of_list, Linked, IsPage, list_number, list_of, IsRight, IsListedRightly, ListsFit, Unlinks, Links, SameSigns}
-use Rattle.size_pages.specs.HasBlocks.{Stands, HasBlocksBut, HasBlocks, IsPlaced}
+use Rattle.size_pages.specs.HasBlocks.{Stands, HasBlocksBut, HasBlocks, IsPlaced, IsRising}
 use Rattle.size_pages.specs.Steps.{CanUnlink, CanLink, CanTakeOff, CanPutOn, IsOnlyHeads}
+use Rattle.size_pages.specs.SweepSteps.{IsOnlyLists}
 use Rattle.size_pages.specs.declared.Pages.{Pages}
 use Rattle.size_pages.proofs.FitLaws.{pages_apart, pages_part, fits_links, StaysButLinks}
 use Rattle.size_pages.proofs.ListLaws.{places_map, Cut, cut_at, linked_behind, linked_front}
@@ -81,8 +82,9 @@ placed_same old new size k s h =
     let P : ℕ → Type 0 = λ high. lies_within (extents_between 4294967296 high new) (page_at size k) size ≡ true in
     subst P (sym s.next_arena) (ap (λ (xs : List Extent). lies_within (filter (begins_between 4294967296 old.next_arena) xs) (page_at size k) size) s.extents ∙ h)
 
-pub fits_new : (pages after : Pages) (old new : Memory) (live then : List Extent) (waiting : List ℕ) (except except2 spare : ℕ) → HasBlocksBut pages old live waiting except spare → IsOnlyHeads pages after → IsInArenas old new → BlocksFit (word_in new) pages.page pages.count then → ClassesFit (word_in new) pages.page pages.count pages.small pages.lowest → ListsFit (word_in new) pages.page pages.count after.heads.items waiting except2 → HasBlocksBut after new then waiting except2 spare
-fits_new pages after old new live then waiting except except2 spare h only s blocks classes lists =
+-- pages whose words and lists were changed
+pub fits_any : (pages after : Pages) (old new : Memory) (live fresh : List Extent) (waiting waiting2 : List ℕ) (except except2 spare : ℕ) → HasBlocksBut pages old live waiting except spare → IsOnlyLists pages after → IsInArenas old new → BlocksFit (word_in new) pages.page pages.count fresh → ClassesFit (word_in new) pages.page pages.count pages.small pages.lowest → ListsFit (word_in new) pages.page pages.count after.heads.items waiting2 except2 → after.waiting ≡ length waiting2 → IsRising waiting2 → HasBlocksBut after new fresh waiting2 except2 spare
+fits_any pages after old new live fresh waiting waiting2 except except2 spare h only s blocks classes lists waits rising =
     let page : after.page ≡ pages.page = only.page in
     let count : after.count ≡ pages.count = only.count in
     let all_at : page_at after.page (after.count + spare) ≡ page_at pages.page (pages.count + spare) = ap (λ (k : ℕ). page_at k (after.count + spare)) page ∙ ap (λ (k : ℕ). page_at pages.page (k + spare)) count in
@@ -96,13 +98,18 @@ fits_new pages after old new live then waiting except except2 spare h only s blo
       end = s.next_arena ∙ h.end ∙ sym all_at;
       below = subst (λ (k : ℕ). k ≤ 1099511627776) (sym all_at) h.below;
       placed = λ k small. subst (λ (n : ℕ). IsPlaced new n k) (sym page) (placed_same old new pages.page k s (h.placed k (omega (arith, count, small))));
-      blocks = subst (λ (k : ℕ). BlocksFit (word_in new) k after.count then) (sym page) (subst (λ (k : ℕ). BlocksFit (word_in new) pages.page k then) (sym count) blocks);
+      blocks = subst (λ (k : ℕ). BlocksFit (word_in new) k after.count fresh) (sym page) (subst (λ (k : ℕ). BlocksFit (word_in new) pages.page k fresh) (sym count) blocks);
       classes = subst (λ (k : ℕ). ClassesFit (word_in new) k after.count after.small after.lowest) (sym page) (subst (λ (k : ℕ). ClassesFit (word_in new) pages.page k after.small after.lowest) (sym count) (subst (λ (k : ℕ). ClassesFit (word_in new) pages.page pages.count k after.lowest) (sym only.small) (subst (λ (k : ℕ). ClassesFit (word_in new) pages.page pages.count pages.small k) (sym only.lowest) classes)));
-      lists = subst (λ (k : ℕ). ListsFit (word_in new) k after.count after.heads.items waiting except2) (sym page) (subst (λ (k : ℕ). ListsFit (word_in new) pages.page k after.heads.items waiting except2) (sym count) lists);
+      lists = subst (λ (k : ℕ). ListsFit (word_in new) k after.count after.heads.items waiting2 except2) (sym page) (subst (λ (k : ℕ). ListsFit (word_in new) pages.page k after.heads.items waiting2 except2) (sym count) lists);
       heads = λ some. let long : 2 * pages.small + 2 ≤ length pages.heads.items = h.heads (omega (arith, count, some)) in let e : after.small ≡ pages.small = only.small in let r : length after.heads.items ≡ length pages.heads.items = only.room in omega arith;
-      waits = only.waiting ∙ h.waits;
-      rising = h.rising;
+      waits = waits;
+      rising = rising;
     }
+
+pub fits_new : (pages after : Pages) (old new : Memory) (live fresh : List Extent) (waiting : List ℕ) (except except2 spare : ℕ) → HasBlocksBut pages old live waiting except spare → IsOnlyHeads pages after → IsInArenas old new → BlocksFit (word_in new) pages.page pages.count fresh → ClassesFit (word_in new) pages.page pages.count pages.small pages.lowest → ListsFit (word_in new) pages.page pages.count after.heads.items waiting except2 → HasBlocksBut after new fresh waiting except2 spare
+fits_new pages after old new live fresh waiting except except2 spare h only s blocks classes lists =
+    fits_any pages after old new live fresh waiting waiting except except2 spare h
+    (record { page = only.page; pages_per_arena = only.pages_per_arena; small = only.small; count = only.count; lowest = only.lowest; room = only.room }) s blocks classes lists (only.waiting ∙ h.waits) h.rising
 
 -- where a page lies
 pub record PageFacts (size count p : ℕ) : Type 0 where

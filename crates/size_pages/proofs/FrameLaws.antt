@@ -1,22 +1,22 @@
 -- What callers may do and know: writes inside live blocks and changes outside the arenas leave the live blocks
 -- as they are, and these lie in the memory and apart from each other.
-use Rattle.std.proofs.Common.{◌≡◌, ◌≢◌, ℕ, ◌+◌, ◌*◌, ◌<◌, ◌≤◌, ◌⊎◌, inl, inr, true, ◌==◌, if◌then◌else◌, List, [], ◌∷◌, ◌++◌, length, IsTrue, arith, refl, sym, ◌∙◌, ap, subst}
+use Rattle.std.proofs.Common.{◌≡◌, ◌≢◌, ℕ, ◌+◌, ◌<◌, ◌≤◌, ◌⊎◌, inl, inr, true, List, ◌∷◌, IsTrue, arith, refl, sym, ◌∙◌, ap, subst}
 use Rattle.std.proofs.lemmas.Bool.Decides.{eqb_tells}
 use Rattle.std.specs.List.{filter}
-use Rattle.heap_space.specs.Places.{has, lies_in_one, with_word}
+use Rattle.heap_space.specs.Places.{lies_in_one, with_word}
 use Rattle.heap_space.specs.Memory.{Memory}
-use Rattle.heap_space.specs.Extents.{Extent, Each, IsApart, AreApart, IsInside, IsOutside, extents_between, begins_between, lies_within, IsUntouched}
+use Rattle.heap_space.specs.Extents.{Extent, Each, AreApart, IsInside, IsOutside, extents_between, begins_between, lies_within, IsUntouched}
 use Rattle.heap_space.proofs.Blocks.{word_at-elsewhere}
 use Rattle.heap_space.proofs.ExtentLaws.{Each-map, extents-with_word, lies_in_one-between, lies_within-part}
-use Rattle.size_pages.specs.PageWords.{Words, word_in, CanStore}
-use Rattle.size_pages.specs.LiveBlocks.{page_at, BlocksFit, ClassesFit, IsInPages}
-use Rattle.size_pages.specs.PageLists.{IsPage, ListsFit, SameSigns}
-use Rattle.size_pages.specs.HasBlocks.{IsPlaced, HasBlocksBut, HasBlocks}
+use Rattle.size_pages.specs.PageWords.{Words, word_in}
+use Rattle.size_pages.specs.LiveBlocks.{page_at, IsInPages}
+use Rattle.size_pages.specs.PageLists.{ListsFit, SameSigns}
+use Rattle.size_pages.specs.HasBlocks.{HasBlocks}
 use Rattle.size_pages.specs.declared.Pages.{Pages}
-use Rattle.size_pages.proofs.FitLaws.{pages_apart, pages_part, fits_frame, page_of_block}
+use Rattle.size_pages.proofs.FitLaws.{pages_apart, pages_part, fits_frame}
 use Rattle.size_pages.proofs.ListMoves.{SameLinks, lists_frame, rightly_same}
-use Rattle.size_pages.proofs.FitsLaws.{page_mono, places_of, below_of, classes_same}
-use Rattle.size_pages.proofs.GiveLaws.{block_in, used_page}
+use Rattle.size_pages.proofs.FitsLaws.{below_of, classes_same}
+use Rattle.size_pages.proofs.GiveLaws.{used_page}
 use Rattle.size_pages.specs.PageWords.{PageHolds, IsBlockOf}
 use Rattle.size_pages.specs.LiveBlocks.{blocks_of}
 use Rattle.heap_space.proofs.ExtentLaws.{Each-right}
@@ -124,3 +124,7 @@ HasBlocks_first pages m a n live waiting f =
       low = omega arith;
       high = omega arith;
     }
+
+-- the live blocks lie inside pages, behind the eight header words
+pub HasBlocks_inside : (pages : Pages) (m : Memory) (live : List Extent) (waiting : List ℕ) → HasBlocks pages m live waiting → Each (IsInPages pages.page pages.count) live
+HasBlocks_inside pages m live waiting f = f.blocks.inside

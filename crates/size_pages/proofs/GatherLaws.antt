@@ -1,29 +1,27 @@
 -- The births of the dead objects of a page are gathered slot by slot.
-use Rattle.std.proofs.Common.{◌≡◌, ◌≢◌, ℕ, ◌+◌, ◌-◌, ◌*◌, ◌/◌, ◌^◌, ◌<◌, ◌≤◌, ◌⊎◌, inl, inr, Bool, true, false, ◌&&◌, not, cond, nat_lt, List, [], ◌∷◌, ◌++◌, map, append_assoc, length, arith, refl, sym, ◌∙◌, ap, subst}
+use Rattle.std.proofs.Common.{◌≡◌, ◌≢◌, ℕ, ◌+◌, ◌*◌, ◌<◌, ◌≤◌, ◌⊎◌, inl, inr, Bool, true, false, ◌&&◌, nat_lt, List, [], ◌∷◌, ◌++◌, map, append_assoc, arith, refl, sym, ◌∙◌, ap, subst}
 use Rattle.std.proofs.lemmas.Bool.{cases_Bool}
-use Rattle.std.proofs.lemmas.Bool.Decides.{eqb_tells, nat_tests}
+use Rattle.std.proofs.lemmas.Bool.Decides.{nat_tests}
 use Rattle.std.proofs.lemmas.List.Sorted.{IsPermutation-refl, IsPermutation-sym, IsPermutation-trans, IsPermutation-cons, IsPermutation-middle, IsPermutation-to_front}
 use Rattle.std.specs.List.{filter}
 use Rattle.std.specs.List.Sorted.{IsPermutation}
 use Rattle.heap_space.specs.Memory.{Memory}
 use Rattle.heap_space.specs.Extents.{Extent, Each}
-use Rattle.heap_space.proofs.ExtentLaws.{Each-map, Each-both, Each-left, Each-right}
+use Rattle.heap_space.proofs.ExtentLaws.{Each-map, Each-left, Each-right}
 use Rattle.object_header.specs.Words.{has_flag}
 use Rattle.object_header.specs.declared.flags.Flag.TheVariants.{Free}
-use Rattle.size_pages.specs.PageWords.{Words, word_in, CanStore, HasAll, IsBlockOf, PageHolds}
-use Rattle.size_pages.specs.LiveBlocks.{page_at, blocks_of, in_page, IsInPages}
-use Rattle.size_pages.specs.PageLists.{IsPage}
-use Rattle.size_pages.specs.HasBlocks.{HasBlocks}
-use Rattle.size_pages.specs.Headers.{HasHeaders, StandsWithHeaders}
+use Rattle.size_pages.specs.PageWords.{Words, word_in, HasAll, IsBlockOf}
+use Rattle.size_pages.specs.LiveBlocks.{page_at, blocks_of, in_page}
+use Rattle.size_pages.specs.Headers.{HasHeaders}
 use Rattle.size_pages.specs.Listing.{CanListBlocks}
-use Rattle.size_pages.specs.Sweeping.{is_dead, dies, birth_in, dead_blocks, kept_blocks}
+use Rattle.size_pages.specs.Sweeping.{is_dead, dies, birth_in}
 use Rattle.size_pages.specs.SlotSteps.{CanSweepAt, GathersBirths, HoldsNumbers}
 use Rattle.size_pages.specs.declared.Pages.{Pages}
 use Rattle.size_pages.proofs.FitLaws.{each_by_test}
 use Rattle.size_pages.proofs.ChoiceLaws.{IsWaitingPage, waiting_pages}
 use Rattle.size_pages.proofs.SplitLaws.{Among, filter_both, filter_same}
 use Rattle.size_pages.proofs.SlotLaws.{AreAway, PageSlots}
-use Rattle.size_pages.proofs.ListingLaws.{ListedPage, listed_page, slot_away, slot_among, header_away, page_blocks, filter_yes, filter_no}
+use Rattle.size_pages.proofs.ListingLaws.{listed_page, slot_away, slot_among, page_blocks, filter_yes, filter_no}
 
 -- the first waiting page
 pub sweep_page_is : (pages : Pages) (m : Memory) (page : ℕ) → CanSweepAt pages m page → IsWaitingPage (word_in m) pages.page pages.count page

@@ -1,7 +1,7 @@
 -- The live blocks are listed by rising place, slot by slot and page by page.
-use Rattle.std.proofs.Common.{◌≡◌, ◌≢◌, ℕ, ◌+◌, ◌-◌, ◌*◌, ◌/◌, ◌^◌, ◌<◌, ◌≤◌, ◌⊎◌, inl, inr, Bool, true, false, cond, nat_lt, List, [], ◌∷◌, ◌++◌, append_assoc, length, arith, refl, sym, ◌∙◌, ap, subst}
+use Rattle.std.proofs.Common.{◌≡◌, ◌≢◌, ℕ, ◌+◌, ◌-◌, ◌*◌, ◌/◌, ◌<◌, ◌≤◌, ◌⊎◌, inl, inr, Bool, true, false, nat_lt, List, [], ◌∷◌, ◌++◌, append_assoc, arith, refl, sym, ◌∙◌, ap, subst}
 use Rattle.std.proofs.Math.Nat.{mul-le-mul_right}
-use Rattle.std.proofs.lemmas.Bool.Decides.{eqb_tells, nat_tests}
+use Rattle.std.proofs.lemmas.Bool.Decides.{nat_tests}
 use Rattle.std.proofs.lemmas.Nat.{div-mul-add}
 use Rattle.std.proofs.lemmas.List.Sorted.{IsPermutation-refl, IsPermutation-sym, IsPermutation-trans, IsPermutation-cons, IsPermutation-middle, IsPermutation-to_front}
 use Rattle.std.specs.List.{filter}
@@ -11,18 +11,16 @@ use Rattle.heap_space.specs.Extents.{Extent, Each}
 use Rattle.heap_space.proofs.ExtentLaws.{Each-map, Each-left, Each-right, Each-join}
 use Rattle.object_header.specs.Words.{has_flag}
 use Rattle.object_header.specs.declared.flags.Flag.TheVariants.{Free}
-use Rattle.size_pages.specs.PageWords.{Words, word_in, CanStore, HasAll, IsBlockOf, PageHolds}
-use Rattle.size_pages.specs.LiveBlocks.{page_at, blocks_of, in_page, PageIs, IsInPages}
-use Rattle.size_pages.specs.PageLists.{IsPage}
+use Rattle.size_pages.specs.PageWords.{Words, word_in, HasAll, IsBlockOf}
+use Rattle.size_pages.specs.LiveBlocks.{page_at, blocks_of, IsInPages}
 use Rattle.size_pages.specs.HasBlocks.{HasBlocks}
-use Rattle.size_pages.specs.Headers.{IsHeaded, HasHeaders, StandsWithHeaders, RiseByPlace, AppendsLive, HoldsMore}
+use Rattle.size_pages.specs.Headers.{IsHeaded, HasHeaders, RiseByPlace, AppendsLive, HoldsMore}
 use Rattle.size_pages.specs.Listing.{CanListBlocks, blocks_below, IsListed, ListsBlocks}
 use Rattle.size_pages.specs.declared.Pages.{Pages}
 use Rattle.size_pages.proofs.FitLaws.{pages_part}
 use Rattle.size_pages.proofs.FitsLaws.{places_of, below_of}
-use Rattle.size_pages.proofs.BeginSweepLaws.{out_each}
-use Rattle.size_pages.proofs.SplitLaws.{Among, each_middle, Each_without, filter_both, below_same}
-use Rattle.size_pages.proofs.SlotLaws.{AreAway, IsFreeAt, PageSlots, page_slots, slot_is, slot_ends, all_away}
+use Rattle.size_pages.proofs.SplitLaws.{Among, each_middle, filter_both, below_same}
+use Rattle.size_pages.proofs.SlotLaws.{AreAway, PageSlots, page_slots, slot_is, all_away}
 
 -- what was appended so far, from the page's beginning to a place
 pub record ListsTo (pages : Pages) (m : Memory) (page : ℕ) (old new : List Extent) (place : ℕ) : Type 0 where

@@ -1,13 +1,13 @@
 -- The live blocks may be named in any order.
-use Rattle.std.proofs.Common.{◌≡◌, ◌≢◌, ℕ, ◌+◌, ◌*◌, ◌<◌, ◌≤◌, ◌⊎◌, inl, inr, Bool, true, false, cond, List, [], ◌∷◌, ◌++◌, length, arith, refl, sym, ◌∙◌, ap, subst}
+use Rattle.std.proofs.Common.{◌≡◌, ℕ, ◌+◌, ◌*◌, inl, inr, Bool, true, false, cond, List, [], ◌∷◌, ◌++◌, length, arith, refl, sym, ◌∙◌, ap, subst}
 use Rattle.std.proofs.Common.{length-append}
 use Rattle.std.specs.List.{filter}
 use Rattle.heap_space.specs.Memory.{Memory}
 use Rattle.heap_space.specs.Extents.{Extent, Each, IsApart, AreApart}
 use Rattle.heap_space.proofs.ExtentLaws.{Each-out, Each-into, AreApart-out, AreApart-into}
 use Rattle.size_pages.specs.PageWords.{Words, word_in, IsBlockOf, BeginsAt, PageHolds}
-use Rattle.size_pages.specs.LiveBlocks.{page_at, in_page, BlocksFit, PageIs, IsInPages}
-use Rattle.size_pages.specs.HasBlocks.{HasBlocksBut, HasBlocks}
+use Rattle.size_pages.specs.LiveBlocks.{page_at, in_page, PageIs, IsInPages}
+use Rattle.size_pages.specs.HasBlocks.{HasBlocks}
 use Rattle.size_pages.specs.declared.Pages.{Pages}
 use Rattle.size_pages.proofs.PageLaws.{begins_out, begins_into}
 

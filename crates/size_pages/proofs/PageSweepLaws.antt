@@ -1,7 +1,7 @@
 -- The sweep of a page, of its steps.
-use Rattle.std.proofs.Common.{◌≡◌, ◌≢◌, ℕ, ◌+◌, ◌*◌, ◌<◌, ◌≤◌, List, [], ◌∷◌, ◌++◌, length, slice_index, arith, refl, sym, ◌∙◌, ap, subst}
+use Rattle.std.proofs.Common.{◌≡◌, ℕ, ◌<◌, List, ◌∷◌, length, slice_index, sym, ◌∙◌, ap, subst}
 use Rattle.heap_space.specs.Memory.{Memory}
-use Rattle.heap_space.specs.Extents.{Extent, Each, IsInside, KeepsWords}
+use Rattle.heap_space.specs.Extents.{Extent, IsInside}
 use Rattle.heap_space.proofs.ExtentLaws.{Each-both}
 use Rattle.size_pages.specs.PageWords.{word_in}
 use Rattle.size_pages.specs.PageLists.{EachPlace, IsPage, first_of_list}

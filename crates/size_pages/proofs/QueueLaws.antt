@@ -1,47 +1,22 @@
 -- Pages that go on the list of the waiting ones, and leave it.
-use Rattle.std.proofs.Common.{◌≡◌, ◌≢◌, ℕ, zero, ◌+◌, ◌-◌, ◌*◌, ◌/◌, ◌^◌, ◌<◌, ◌≤◌, ◌⊎◌, inl, inr, Bool, true, false, cond, ◌==◌, if◌then◌else◌, List, [], ◌∷◌, ◌++◌, length, slice_index, IsTrue, arith, refl, sym, ◌∙◌, ap, subst}
-use Rattle.std.proofs.lemmas.Bool.{cases_lt}
+use Rattle.std.proofs.Common.{◌≡◌, ◌≢◌, ℕ, ◌+◌, ◌-◌, ◌*◌, ◌<◌, ◌≤◌, ◌⊎◌, inl, inr, ◌==◌, if◌then◌else◌, List, [], ◌∷◌, length, slice_index, arith, refl, sym, ◌∙◌, ap, subst}
 use Rattle.std.proofs.lemmas.Bool.Decides.{eqb_tells, nat_tests}
-use Rattle.std.specs.List.{filter}
 use Rattle.heap_space.specs.Memory.{Memory}
-use Rattle.heap_space.specs.Extents.{Extent, Each, KeepsWords}
-use Rattle.size_pages.specs.PageWords.{Words, word_in, CanStore, HasAll, IsInArenas, PageHolds}
-use Rattle.size_pages.specs.LiveBlocks.{page_at, blocks_of, in_page, BlocksFit, ClassesFit, PageIs, IsInPages}
-use Rattle.size_pages.specs.PageLists.{EachPlace, IsIn, first_of_list, IsPage, list_number, list_of, IsRight, IsListedRightly, ListsFit, Unlinks, Links, SameSigns}
-use Rattle.size_pages.specs.HasBlocks.{HasBlocksBut, HasBlocks, IsPlaced, IsRising, KeepsSizes}
-use Rattle.size_pages.specs.Steps.{CanUnlink, CanLink, CanTakeOff, IsOnlyHeads}
+use Rattle.heap_space.specs.Extents.{Extent}
+use Rattle.size_pages.specs.PageWords.{Words, word_in, HasAll, IsInArenas}
+use Rattle.size_pages.specs.LiveBlocks.{page_at, ClassesFit}
+use Rattle.size_pages.specs.PageLists.{EachPlace, first_of_list, IsPage, list_number, list_of, IsRight, IsListedRightly, ListsFit, Unlinks, Links, SameSigns}
+use Rattle.size_pages.specs.HasBlocks.{HasBlocksBut, HasBlocks, IsRising, KeepsSizes}
+use Rattle.size_pages.specs.Steps.{CanLink, CanTakeOff, IsOnlyHeads}
 use Rattle.size_pages.specs.SweepSteps.{IsOnlyLists, CanWait, CanPutWaiting, WaitsMore}
 use Rattle.size_pages.specs.declared.Pages.{Pages}
-use Rattle.size_pages.proofs.FitLaws.{pages_apart, pages_part, fits_links, StaysButLinks}
-use Rattle.size_pages.proofs.ListLaws.{places_map, Cut}
-use Rattle.size_pages.proofs.ListMoves.{page_words, not_zero, first_page, lists_unlink_any, lists_link_any, right_words}
-use Rattle.size_pages.proofs.FitsLaws.{placed_same, places_of, below_of, header_has, has_or, no_link, classes_same, Beside, beside, off_signs}
+use Rattle.size_pages.proofs.FitLaws.{pages_part, fits_links, StaysButLinks}
+use Rattle.size_pages.proofs.ListLaws.{places_map}
+use Rattle.size_pages.proofs.ListMoves.{page_words, not_zero, first_page, lists_link_any}
+use Rattle.size_pages.proofs.FitsLaws.{fits_any, places_of, below_of, header_has, has_or, no_link, classes_same, beside}
 use Rattle.size_pages.proofs.EndLaws.{heads_long, number_of_list}
 use Rattle.size_pages.proofs.KeepLaws.{keeps_then, keeps_same, links_keep, off_keeps}
 use Rattle.size_pages.proofs.ArenaLaws.{arenas_then, arenas_same}
-
-pub fits_any : (pages after : Pages) (old new : Memory) (live fresh : List Extent) (waiting waiting2 : List ℕ) (except except2 spare : ℕ) → HasBlocksBut pages old live waiting except spare → IsOnlyLists pages after → IsInArenas old new → BlocksFit (word_in new) pages.page pages.count fresh → ClassesFit (word_in new) pages.page pages.count pages.small pages.lowest → ListsFit (word_in new) pages.page pages.count after.heads.items waiting2 except2 → after.waiting ≡ length waiting2 → IsRising waiting2 → HasBlocksBut after new fresh waiting2 except2 spare
-fits_any pages after old new live fresh waiting waiting2 except except2 spare h only s blocks classes lists waits rising =
-    let page : after.page ≡ pages.page = only.page in
-    let count : after.count ≡ pages.count = only.count in
-    let all_at : page_at after.page (after.count + spare) ≡ page_at pages.page (pages.count + spare) = ap (λ (k : ℕ). page_at k (after.count + spare)) page ∙ ap (λ (k : ℕ). page_at pages.page (k + spare)) count in
-    record {
-      size_high = subst (λ (k : ℕ). k ≤ 8192) (sym page) h.size_high;
-      arena_low = subst (λ (k : ℕ). 1 ≤ k) (sym only.pages_per_arena) h.arena_low;
-      arena_high = subst (λ (k : ℕ). k ≤ 1024) (sym only.pages_per_arena) h.arena_high;
-      small_low = subst (λ (k : ℕ). 2 ≤ k) (sym only.small) h.small_low;
-      small_high = let e : after.small ≡ pages.small = only.small in let f : pages.small + 8 ≤ pages.page = h.small_high in omega arith;
-      arena_size = s.arena_words ∙ h.arena_size ∙ sym (ap (λ (k : ℕ). k * after.pages_per_arena) page ∙ ap (λ (k : ℕ). pages.page * k) only.pages_per_arena);
-      end = s.next_arena ∙ h.end ∙ sym all_at;
-      below = subst (λ (k : ℕ). k ≤ 1099511627776) (sym all_at) h.below;
-      placed = λ k small. subst (λ (n : ℕ). IsPlaced new n k) (sym page) (placed_same old new pages.page k s (h.placed k (omega (arith, count, small))));
-      blocks = subst (λ (k : ℕ). BlocksFit (word_in new) k after.count fresh) (sym page) (subst (λ (k : ℕ). BlocksFit (word_in new) pages.page k fresh) (sym count) blocks);
-      classes = subst (λ (k : ℕ). ClassesFit (word_in new) k after.count after.small after.lowest) (sym page) (subst (λ (k : ℕ). ClassesFit (word_in new) pages.page k after.small after.lowest) (sym count) (subst (λ (k : ℕ). ClassesFit (word_in new) pages.page pages.count k after.lowest) (sym only.small) (subst (λ (k : ℕ). ClassesFit (word_in new) pages.page pages.count pages.small k) (sym only.lowest) classes)));
-      lists = subst (λ (k : ℕ). ListsFit (word_in new) k after.count after.heads.items waiting2 except2) (sym page) (subst (λ (k : ℕ). ListsFit (word_in new) pages.page k after.heads.items waiting2 except2) (sym count) lists);
-      heads = λ some. let long : 2 * pages.small + 2 ≤ length pages.heads.items = h.heads (omega (arith, count, some)) in let e : after.small ≡ pages.small = only.small in let r : length after.heads.items ≡ length pages.heads.items = only.room in omega arith;
-      waits = waits;
-      rising = rising;
-    }
 
 -- where the words of the links alone change
 link_words : (w new : Words) (size count page next : ℕ) (heads after : List ℕ) (list kind : ℕ) → 64 ≤ size → IsPage size count page → (next ≡ 0) ⊎ IsPage size count next → next ≡ slice_index heads list → Links w new heads after page list kind → StaysButLinks w new size count

@@ -1,13 +1,12 @@
 -- A page that was swept leaves the waiting ones, and goes on the list that its words call for.
-use Rattle.std.proofs.Common.{◌≡◌, ◌≢◌, ℕ, zero, ◌+◌, ◌-◌, ◌*◌, ◌/◌, ◌^◌, ◌<◌, ◌≤◌, ◌⊎◌, inl, inr, List, [], ◌∷◌, ◌++◌, length, slice_index, arith, refl, sym, ◌∙◌, ap, subst}
-use Rattle.std.proofs.lemmas.Bool.Decides.{eqb_tells, nat_tests}
+use Rattle.std.proofs.Common.{◌≡◌, ◌≢◌, ℕ, ◌+◌, ◌-◌, ◌*◌, ◌<◌, ◌≤◌, ◌⊎◌, inl, inr, List, [], ◌∷◌, length, arith, refl, sym, ◌∙◌, ap, subst}
 use Rattle.heap_space.specs.Memory.{Memory}
-use Rattle.heap_space.specs.Extents.{Extent, Each, KeepsWords}
-use Rattle.size_pages.specs.PageWords.{Words, word_in, CanStore, HasAll, IsInArenas, PageHolds, Clears}
+use Rattle.heap_space.specs.Extents.{Extent}
+use Rattle.size_pages.specs.PageWords.{word_in, HasAll, IsInArenas, Clears}
 use Rattle.size_pages.specs.LiveBlocks.{page_at, blocks_of, BlocksFit, ClassesFit, PageIs}
-use Rattle.size_pages.specs.PageLists.{IsPage, list_number, list_of, IsRight, ListsFit, Unlinks, Links, SameSigns, HasRoom}
-use Rattle.size_pages.specs.HasBlocks.{HasBlocksBut, HasBlocks, Stands, KeepsSizes}
-use Rattle.size_pages.specs.Steps.{CanUnlink, CanPutOn, IsOnlyHeads}
+use Rattle.size_pages.specs.PageLists.{IsPage, list_number, list_of, ListsFit, Unlinks, Links, SameSigns}
+use Rattle.size_pages.specs.HasBlocks.{HasBlocksBut, HasBlocks, KeepsSizes}
+use Rattle.size_pages.specs.Steps.{CanPutOn, IsOnlyHeads}
 use Rattle.size_pages.specs.Growth.{IsLowered}
 use Rattle.size_pages.specs.SweepSteps.{IsOnlyLists}
 use Rattle.size_pages.specs.SlotSteps.{CanRelist, Relists}
@@ -15,13 +14,12 @@ use Rattle.size_pages.specs.declared.Pages.{Pages}
 use Rattle.size_pages.proofs.FitLaws.{pages_part, fits_one, fits_links, stays_elsewhere, StaysButLinks}
 use Rattle.size_pages.proofs.ListLaws.{Cut}
 use Rattle.size_pages.proofs.ListMoves.{not_zero, lists_unlink_any}
-use Rattle.size_pages.proofs.FitsLaws.{OnList, can_unlink_on, signs_on, Beside, beside, no_link, classes_same, header_has, places_of, below_of, fits_new}
+use Rattle.size_pages.proofs.FitsLaws.{OnList, beside, no_link, classes_same, header_has, places_of, below_of, fits_any, fits_new}
 use Rattle.size_pages.proofs.GiveLaws.{IsOnlyPage, lists_inner, classes_one, only_same, length_none}
 use Rattle.size_pages.proofs.EndLaws.{heads_long, lowered_fits}
 use Rattle.size_pages.proofs.TakeLaws.{list_is}
 use Rattle.size_pages.proofs.KeepLaws.{keeps_on, keeps_then, links_keep, cleared_keeps}
 use Rattle.size_pages.proofs.ArenaLaws.{arenas_then, all_after}
-use Rattle.size_pages.proofs.QueueLaws.{fits_any}
 use Rattle.size_pages.proofs.ChoiceLaws.{IsWaitingPage, waiting_pages}
 
 -- the first waiting page

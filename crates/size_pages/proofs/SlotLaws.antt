@@ -1,21 +1,17 @@
 -- The blocks of a page, one after another: each is free or live, and its first word tells which.
-use Rattle.std.proofs.Common.{◌≡◌, ◌≢◌, ℕ, ◌+◌, ◌-◌, ◌*◌, ◌/◌, ◌%◌, ◌<◌, ◌≤◌, ◌⊎◌, inl, inr, Bool, true, false, cond, List, [], ◌∷◌, ◌++◌, length, arith, refl, sym, ◌∙◌, ap, subst}
+use Rattle.std.proofs.Common.{◌≡◌, ◌≢◌, ℕ, ◌+◌, ◌*◌, ◌<◌, ◌≤◌, ◌⊎◌, inl, inr, Bool, true, false, cond, List, [], ◌∷◌, ◌++◌, length, arith, sym, ◌∙◌, ap}
 use Rattle.std.proofs.Math.Nat.{mul-le-mul_right}
-use Rattle.std.proofs.lemmas.Bool.{cases_Bool, cases_lt}
-use Rattle.std.proofs.lemmas.Bool.Decides.{eqb_tells, nat_tests}
+use Rattle.std.proofs.lemmas.Bool.{cases_lt}
+use Rattle.std.proofs.lemmas.Bool.Decides.{nat_tests}
 use Rattle.std.specs.List.{filter}
 use Rattle.heap_space.specs.Memory.{Memory}
-use Rattle.heap_space.specs.Extents.{Extent, Each, IsApart, AreApart}
+use Rattle.heap_space.specs.Extents.{Extent, Each, IsApart}
 use Rattle.heap_space.proofs.ExtentLaws.{Each-map, Each-both, Each-left, Each-right, AreApart-between}
-use Rattle.object_header.specs.Words.{has_flag}
-use Rattle.object_header.specs.declared.flags.Flag.TheVariants.{Free}
 use Rattle.size_pages.specs.PageWords.{Words, word_in, Chain, IsBlockOf, BeginsAt, PageHolds}
-use Rattle.size_pages.specs.LiveBlocks.{page_at, blocks_of, in_page, BlocksFit, PageIs, IsInPages}
-use Rattle.size_pages.specs.PageLists.{IsPage}
+use Rattle.size_pages.specs.LiveBlocks.{page_at, blocks_of, in_page, PageIs, IsInPages}
 use Rattle.size_pages.specs.HasBlocks.{HasBlocks}
-use Rattle.size_pages.specs.Headers.{IsHeaded, HasHeaders}
 use Rattle.size_pages.specs.declared.Pages.{Pages}
-use Rattle.size_pages.proofs.FitLaws.{pages_apart, each_by_test}
+use Rattle.size_pages.proofs.FitLaws.{each_by_test}
 use Rattle.size_pages.proofs.SplitLaws.{Among, among}
 
 -- no block of them has a word from low on and below high

@@ -1,15 +1,12 @@
 -- A live block among the others: which begin below its place, and which behind its end.
-use Rattle.std.proofs.Common.{◌≡◌, ◌≢◌, ℕ, ◌+◌, ◌*◌, ◌<◌, ◌≤◌, ◌⊎◌, inl, inr, Bool, true, false, ◌&&◌, cond, nat_lt, List, [], ◌∷◌, ◌++◌, length, arith, refl, sym, ◌∙◌, ap, subst}
+use Rattle.std.proofs.Common.{◌≡◌, ℕ, ◌+◌, ◌<◌, ◌≤◌, ◌⊎◌, inl, inr, Bool, cond, nat_lt, List, [], ◌∷◌, ◌++◌, arith, refl, ◌∙◌, ap, subst}
 use Rattle.std.proofs.lemmas.Bool.{cases_Bool}
 use Rattle.std.proofs.lemmas.Bool.Decides.{nat_tests}
-use Rattle.std.proofs.lemmas.List.Sorted.{IsPermutation-refl, IsPermutation-sym, IsPermutation-trans, IsPermutation-cons, IsPermutation-middle, IsPermutation-to_front}
 use Rattle.std.specs.List.{filter}
-use Rattle.std.specs.List.Sorted.{IsPermutation}
 use Rattle.heap_space.specs.Extents.{Extent, Each, IsApart, AreApart}
-use Rattle.heap_space.proofs.ExtentLaws.{Each-map, Each-both, Each-left, Each-right, AreApart-out}
+use Rattle.heap_space.proofs.ExtentLaws.{Each-map, Each-both, AreApart-out}
 use Rattle.size_pages.specs.PageWords.{BeginsAt}
-use Rattle.size_pages.specs.Headers.{RiseByPlace}
-use Rattle.size_pages.specs.Listing.{blocks_below, IsListed}
+use Rattle.size_pages.specs.Listing.{blocks_below}
 
 -- the block at b of n words, and the others, each of which begins below it or behind it
 pub record Among (b n : ℕ) (live : List Extent) : Type 0 where

@@ -1,34 +1,32 @@
 -- The slots of a page are swept one after another.
-use Rattle.std.proofs.Common.{◌≡◌, ◌≢◌, ℕ, ◌+◌, ◌-◌, ◌*◌, ◌/◌, ◌^◌, ◌<◌, ◌≤◌, ◌⊎◌, inl, inr, Bool, true, false, ◌&&◌, not, ◌==◌, if◌then◌else◌, cond, nat_lt, List, [], ◌∷◌, ◌++◌, length, arith, refl, sym, ◌∙◌, ap, subst}
+use Rattle.std.proofs.Common.{◌≡◌, ◌≢◌, ℕ, ◌+◌, ◌-◌, ◌*◌, ◌/◌, ◌<◌, ◌≤◌, ◌⊎◌, inl, inr, Bool, true, false, ◌&&◌, not, ◌==◌, if◌then◌else◌, nat_lt, List, [], ◌∷◌, ◌++◌, arith, refl, sym, ◌∙◌, ap, subst}
 use Rattle.std.proofs.lemmas.Bool.{cases_Bool}
 use Rattle.std.proofs.lemmas.Bool.Decides.{eqb_tells, nat_tests}
 use Rattle.std.specs.List.{filter}
 use Rattle.heap_space.specs.Memory.{Memory}
-use Rattle.heap_space.specs.Extents.{Extent, Each, IsInside, IsApart, AreApart, KeepsWords, begins_between}
+use Rattle.heap_space.specs.Extents.{Extent, Each, IsInside, IsApart, KeepsWords, begins_between}
 use Rattle.heap_space.proofs.ExtentLaws.{Each-map, Each-both, Each-left, Each-right, Each-into, Each-out}
 use Rattle.object_header.specs.Words.{has_flag, without_flag}
 use Rattle.object_header.specs.declared.flags.Flag.TheVariants.{Free, Visited}
-use Rattle.size_pages.specs.PageWords.{Words, word_in, CanStore, HasAll, IsInArenas, IsStored, GivesBack}
-use Rattle.size_pages.specs.LiveBlocks.{page_at, in_page, IsInPages}
-use Rattle.size_pages.specs.PageLists.{IsPage}
+use Rattle.size_pages.specs.PageWords.{Words, word_in, CanStore, IsInArenas, IsStored, GivesBack}
+use Rattle.size_pages.specs.LiveBlocks.{page_at, in_page}
 use Rattle.size_pages.specs.HasBlocks.{HasBlocks, IsLive}
 use Rattle.size_pages.specs.Steps.{CanPut}
 use Rattle.size_pages.specs.Headers.{HasHeaders}
-use Rattle.size_pages.specs.Listing.{CanListBlocks}
-use Rattle.size_pages.specs.Sweeping.{is_dead, dies, dead_blocks, kept_blocks, swept_word}
+use Rattle.size_pages.specs.Sweeping.{is_dead, dies, kept_blocks, swept_word}
 use Rattle.size_pages.specs.SlotSteps.{CanSweepAt, CanSweepSlot, SweepsSlot, SweepsBlocks}
 use Rattle.size_pages.specs.declared.Pages.{Pages}
 use Rattle.size_pages.proofs.EndLaws.{give_facts, give_plain}
 use Rattle.size_pages.proofs.KeepLaws.{given_keeps}
 use Rattle.size_pages.proofs.ArenaLaws.{arenas_then, arenas_same, can_store_after}
 use Rattle.size_pages.proofs.GiveLaws.{page_number}
-use Rattle.size_pages.proofs.OrderLaws.{HasBlocks_front, HasBlocks_back}
+use Rattle.size_pages.proofs.OrderLaws.{HasBlocks_front}
 use Rattle.size_pages.proofs.FrameLaws.{HasBlocks_untouched}
 use Rattle.size_pages.proofs.SplitLaws.{Among, each_middle, filter_both, filter_same}
 use Rattle.size_pages.proofs.ChoiceLaws.{waiting_pages}
-use Rattle.size_pages.proofs.SlotLaws.{AreAway, PageSlots}
+use Rattle.size_pages.proofs.SlotLaws.{AreAway}
 use Rattle.size_pages.proofs.ListingLaws.{filter_yes, filter_no}
-use Rattle.size_pages.proofs.GatherLaws.{SweptPage, swept_page, sweep_page_is, at_free, at_live, page_part, in_page_cases}
+use Rattle.size_pages.proofs.GatherLaws.{swept_page, sweep_page_is, at_free, at_live, page_part, in_page_cases}
 
 -- whether a block stays where the slots below a place are swept
 abbrev pub stays : (Extent → Bool) → ℕ → Extent → Bool

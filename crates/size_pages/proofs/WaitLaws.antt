@@ -1,18 +1,16 @@
 -- Pages that wait for a sweep.
-use Rattle.std.proofs.Common.{◌≡◌, ◌≢◌, ℕ, ◌+◌, ◌-◌, ◌*◌, ◌/◌, ◌^◌, ◌<◌, ◌≤◌, ◌⊎◌, inl, inr, Bool, true, false, ◌==◌, if◌then◌else◌, List, [], ◌∷◌, length, slice_index, IsTrue, nat_eq, arith, refl, sym, ◌∙◌, ap, subst}
-use Rattle.std.proofs.lemmas.Bool.{cases_lt}
-use Rattle.std.proofs.lemmas.Bool.Decides.{eqb_tells, nat_tests}
+use Rattle.std.proofs.Common.{◌≡◌, ℕ, ◌+◌, inl, inr, List, [], ◌∷◌, IsTrue, nat_eq, arith, sym, ap, subst}
+use Rattle.std.proofs.lemmas.Bool.Decides.{nat_tests}
 use Rattle.std.specs.Prelude.{◌↔◌}
 use Rattle.heap_space.specs.Memory.{Memory}
-use Rattle.heap_space.specs.Extents.{Extent, Each}
-use Rattle.size_pages.specs.PageWords.{Words, word_in, CanStore}
+use Rattle.heap_space.specs.Extents.{Extent}
+use Rattle.size_pages.specs.PageWords.{word_in, CanStore}
 use Rattle.size_pages.specs.LiveBlocks.{page_at}
-use Rattle.size_pages.specs.PageLists.{EachPlace, IsIn, IsPage, list_number, list_of, IsListedRightly}
-use Rattle.size_pages.specs.HasBlocks.{HasBlocks, IsLive}
+use Rattle.size_pages.specs.PageLists.{EachPlace, IsIn, IsPage, list_number, list_of}
+use Rattle.size_pages.specs.HasBlocks.{HasBlocks}
 use Rattle.size_pages.specs.Calls.{page_of, BeginsLive}
 use Rattle.size_pages.specs.declared.Pages.{Pages}
-use Rattle.size_pages.proofs.GiveLaws.{block_in}
-use Rattle.size_pages.proofs.EndLaws.{GiveFacts, give_facts}
+use Rattle.size_pages.proofs.EndLaws.{give_facts}
 use Rattle.size_pages.proofs.ChoiceLaws.{IsWaitingPage, waiting_pages}
 
 pub each_in : (P : ℕ → Type 0) (xs : List ℕ) (p : ℕ) → EachPlace P xs → IsIn p xs → P p

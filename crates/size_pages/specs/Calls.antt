@@ -6,7 +6,7 @@ use Rattle.heap_space.specs.Extents.{Extent, Each}
 use Rattle.size_pages.specs.LiveBlocks.{page_at, blocks_of}
 use Rattle.size_pages.specs.HasBlocks.{HasBlocks, IsLive}
 use Rattle.size_pages.specs.declared.Pages.{Pages}
-use Rattle.size_pages.specs.PageLists.{EachPlace, IsIn, HasRoom}
+use Rattle.size_pages.specs.PageLists.{EachPlace, IsIn, IsPage, HasRoom}
 use Rattle.size_pages.specs.Growth.{AllUsed}
 
 -- where the page of a place begins
@@ -33,11 +33,16 @@ pub record AddsArena (w : Words) (size count n : ℕ) (old new : Memory) : Type 
   pub one : (new.next_arena ≡ old.next_arena) ⊎ (new.next_arena ≡ old.next_arena + old.arena_words)
   pub exactly : (new.next_arena ≡ old.next_arena + old.arena_words) ↔ (NoneHasRoom w size count n × AllUsed w size count)
 
+-- a page, or none
+abbrev pub IsPageOrNone : ℕ → ℕ → ℕ → Type 0
+IsPageOrNone size count p = (p ≡ 0) ⊎ IsPage size count p
+
 -- words change in the block's words 0 and 1, its page's header, and words 4 and 5 of at most three other pages
-pub record ChangesAround (old new : Words) (page a : ℕ) : Type 0 where
+pub record ChangesAround (old new : Words) (size count page a : ℕ) : Type 0 where
   pub first : ℕ
   pub second : ℕ
   pub third : ℕ
+  pub pages : IsPageOrNone size count first × IsPageOrNone size count second × IsPageOrNone size count third
   pub rest : (e : ℕ) → e ≢ a → e ≢ a + 1 → (e < page) ⊎ (page + 8 ≤ e) → e ≢ first + 4 → e ≢ second + 5 → e ≢ third + 5 → new e ≡ old e
 
 -- a live block begins at the place

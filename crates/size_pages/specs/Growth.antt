@@ -78,6 +78,7 @@ pub record AddsPages (old new : Pages) (m after : Memory) : Type 0 where
   pub kept : (live : List Extent) (waiting : List ℕ) → HasBlocks old m live waiting → KeepsWords m after live
   pub next : after.next_arena ≡ m.next_arena + m.arena_words
   pub size : after.arena_words ≡ m.arena_words
+  pub large : after.next_large ≡ m.next_large
   pub more : old.count < new.count
   pub unused : word_in after (page_at old.page old.count) ≡ 0
   pub classes : (k : ℕ) → word_in after (page_at old.page k) ≡ word_in m (page_at old.page k)
@@ -93,4 +94,6 @@ pub record BeginsPage (old new : Pages) (m after : Memory) (page n : ℕ) : Type
   pub lower : (k : ℕ) → k < old.count → page_at old.page k < page → word_in m (page_at old.page k) ≢ 0
   pub one : (after.next_arena ≡ m.next_arena) ⊎ (after.next_arena ≡ m.next_arena + m.arena_words)
   pub exactly : (after.next_arena ≡ m.next_arena + m.arena_words) ↔ AllUsed (word_in m) old.page old.count
+  pub size : after.arena_words ≡ m.arena_words
+  pub large : after.next_large ≡ m.next_large
   pub outside : KeepsOutside 4294967296 1099511627776 m after

@@ -3,14 +3,17 @@ use Rattle.std.specs.Prelude.{◌≡◌, ◌≢◌, ℕ, ◌+◌, ◌*◌, ◌-�
 use Rattle.size_pages.specs.PageWords.{Words}
 use Rattle.size_pages.specs.LiveBlocks.{page_at}
 
+-- each of the places is so
 abbrev pub EachPlace : (ℕ → Type 0) → List ℕ → Type 0
 EachPlace P [] = Unit {0}
 EachPlace P (x ∷ xs) = P x × EachPlace P xs
 
+-- the place is one of them
 abbrev pub IsIn : ℕ → List ℕ → Type 0
 IsIn p [] = ⊥
 IsIn p (x ∷ xs) = (p ≡ x) ⊎ IsIn p xs
 
+-- no place comes twice
 abbrev pub AreDistinct : List ℕ → Type 0
 AreDistinct [] = Unit {0}
 AreDistinct (x ∷ xs) = EachPlace (λ y. x ≢ y) xs × AreDistinct xs

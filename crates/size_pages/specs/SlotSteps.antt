@@ -1,17 +1,15 @@
 -- What the steps of the sweep of a page ask, and what they change.
-use Rattle.std.specs.Prelude.{◌≡◌, ℕ, ◌+◌, ◌*◌, ◌-◌, ◌/◌, ◌<◌, ◌≤◌, Bool, true, false, ◌&&◌, not, nat_lt, ◌==◌, if◌then◌else◌, List, ◌∷◌, ◌++◌, map, filter}
+use Rattle.std.specs.Prelude.{◌≡◌, ℕ, true, false, List, ◌∷◌, ◌++◌, map}
 use Rattle.std.specs.List.Sorted.{IsPermutation}
 use Rattle.heap_space.specs.Memory.{Memory}
 use Rattle.heap_space.specs.Extents.{Extent, Each, IsInside, KeepsWords}
 use Rattle.object_header.specs.Words.{has_flag, without_flag}
 use Rattle.object_header.specs.declared.flags.Flag.TheVariants.{Free, Visited}
-use Rattle.size_pages.specs.PageWords.{Words, word_in, CanStore, HasAll, IsInArenas, IsStored, GivesBack}
-use Rattle.size_pages.specs.LiveBlocks.{in_page}
-use Rattle.size_pages.specs.PageLists.{IsPage}
-use Rattle.size_pages.specs.HasBlocks.{HasBlocks, HasBlocksBut, KeepsSizes}
+use Rattle.size_pages.specs.PageWords.{Words, word_in, CanStore, IsInArenas, IsStored, GivesBack}
+use Rattle.size_pages.specs.HasBlocks.{HasBlocks, KeepsSizes}
 use Rattle.size_pages.specs.Steps.{CanPut}
 use Rattle.size_pages.specs.Headers.{HasHeaders}
-use Rattle.size_pages.specs.Sweeping.{is_dead, dies, birth_in, dead_blocks, kept_blocks, swept_word}
+use Rattle.size_pages.specs.Sweeping.{is_dead, birth_in, dead_blocks, kept_blocks, swept_word}
 use Rattle.size_pages.specs.declared.Pages.{Pages}
 
 -- the page is the first waiting one

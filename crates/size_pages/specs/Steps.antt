@@ -1,11 +1,9 @@
 -- What the steps of the calls ask of the words, and what they change.
-use Rattle.std.specs.Prelude.{◌≡◌, ◌≢◌, ℕ, ◌+◌, ◌*◌, ◌<◌, ◌≤◌, ◌⊎◌, ◌↔◌, ◌^◌, List, length, slice_index}
+use Rattle.std.specs.Prelude.{◌≡◌, ◌≢◌, ℕ, ◌+◌, ◌*◌, ◌<◌, ◌≤◌, ◌^◌, List, length, slice_index}
 use Rattle.heap_space.specs.Memory.{Memory}
-use Rattle.heap_space.specs.Extents.{Extent, KeepsWords, KeepsOutside}
-use Rattle.size_pages.specs.PageWords.{Words, word_in, CanStore, HasAll, IsInArenas}
-use Rattle.size_pages.specs.LiveBlocks.{page_at}
+use Rattle.size_pages.specs.PageWords.{word_in, CanStore, HasAll}
 use Rattle.size_pages.specs.PageLists.{IsPage, IsRight, HasRoom, list_of, list_number}
-use Rattle.size_pages.specs.HasBlocks.{HasBlocks, HasBlocksBut, StandsBut, Stands, IsLive, KeepsSizes}
+use Rattle.size_pages.specs.HasBlocks.{StandsBut, Stands, IsLive}
 use Rattle.size_pages.specs.declared.Pages.{Pages}
 
 -- the words that taking a page off a list writes

@@ -1,10 +1,10 @@
 -- What the steps of a sweep ask, and what they change.
-use Rattle.std.specs.Prelude.{◌≡◌, ◌≢◌, ℕ, ◌+◌, ◌*◌, ◌^◌, ◌<◌, ◌≤◌, ◌==◌, if◌then◌else◌, List, ◌∷◌, length}
+use Rattle.std.specs.Prelude.{◌≡◌, ◌≢◌, ℕ, ◌+◌, ◌^◌, ◌<◌, ◌≤◌, ◌==◌, if◌then◌else◌, List, ◌∷◌, length}
 use Rattle.heap_space.specs.Memory.{Memory}
 use Rattle.heap_space.specs.Extents.{Extent, KeepsWords}
 use Rattle.size_pages.specs.PageWords.{word_in, IsInArenas}
 use Rattle.size_pages.specs.LiveBlocks.{page_at}
-use Rattle.size_pages.specs.PageLists.{EachPlace, IsPage, IsRight}
+use Rattle.size_pages.specs.PageLists.{EachPlace, IsPage}
 use Rattle.size_pages.specs.HasBlocks.{HasBlocks, HasBlocksBut, KeepsSizes}
 use Rattle.size_pages.specs.declared.Pages.{Pages}
 

@@ -90,6 +90,8 @@ impl Pages {
         ensures arena { OnOk result (AddsArena (word_in space.old) self.old.page self.old.count n space.old space.new) }
         ensures kept { (live : List Extent) (waiting : List ℕ) → HasBlocks self.old space.old live waiting → KeepsWords space.old space.new live }
         ensures outside { KeepsOutside 4294967296 1099511627776 space.old space.new }
+        ensures arena_words { space.new.arena_words ≡ space.old.arena_words }
+        ensures next_large { space.new.next_large ≡ space.old.next_large }
         ensures err { OnErr result (space.new ≡ space.old) }
         ensures err_blocks { (live : List Extent) (waiting : List ℕ) → HasBlocks self.old space.old live waiting → OnErr result (HasBlocks self.new space.new live waiting) }
         ensures stands { Stands self.new space.new }
@@ -112,7 +114,7 @@ impl Pages {
         requires { IsLive self.old space.old (a, n) }
         ensures given { (live : List Extent) (waiting : List ℕ) → HasBlocks self.old space.old ((a, n) ∷ live) waiting → HasBlocks self.new space.new live waiting }
         ensures kept { (live : List Extent) (waiting : List ℕ) → HasBlocks self.old space.old ((a, n) ∷ live) waiting → KeepsWords space.old space.new live }
-        ensures around { ChangesAround (word_in space.old) (word_in space.new) (page_of self.old.page a) a }
+        ensures around { ChangesAround (word_in space.old) (word_in space.new) self.old.page self.old.count (page_of self.old.page a) a }
         ensures arenas { IsInArenas space.old space.new }
         ensures stands { Stands self.new space.new }
         ensures sizes { KeepsSizes self.old self.new }

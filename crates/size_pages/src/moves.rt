@@ -78,7 +78,7 @@ impl Pages {
         requires { CanEnd self.old space.old page a n list }
         ensures given { (live : List Extent) (waiting : List ℕ) → HasBlocks self.old space.old ((a, n) ∷ live) waiting → HasBlocks self.new space.new live waiting }
         ensures kept { (live : List Extent) (waiting : List ℕ) → HasBlocks self.old space.old ((a, n) ∷ live) waiting → KeepsWords space.old space.new live }
-        ensures around { ChangesAround (word_in space.old) (word_in space.new) page a }
+        ensures around { ChangesAround (word_in space.old) (word_in space.new) self.old.page self.old.count page a }
         ensures sizes { KeepsSizes self.old self.new }
         ensures arenas { IsInArenas space.old space.new }
     {
@@ -93,7 +93,7 @@ impl Pages {
         requires { CanGiveFull self.old space.old page a n }
         ensures given { (live : List Extent) (waiting : List ℕ) → HasBlocks self.old space.old ((a, n) ∷ live) waiting → HasBlocks self.new space.new live waiting }
         ensures kept { (live : List Extent) (waiting : List ℕ) → HasBlocks self.old space.old ((a, n) ∷ live) waiting → KeepsWords space.old space.new live }
-        ensures around { ChangesAround (word_in space.old) (word_in space.new) page a }
+        ensures around { ChangesAround (word_in space.old) (word_in space.new) self.old.page self.old.count page a }
         ensures sizes { KeepsSizes self.old self.new }
         ensures arenas { IsInArenas space.old space.new }
     {

@@ -1,5 +1,5 @@
 -- Checks that refuse a line, each over just what it looks at.
-use Rattle.std.specs.Prelude.{ℕ, ◌+◌, Bool, true, ◌&&◌, ◌||◌, not, nat_lt, nat_le, is_some, is_none, List, [], ◌∷◌, Option, Some, None, slice_get, if◌then◌else◌}
+use Rattle.std.specs.Prelude.{ℕ, ◌+◌, ◌≤◌, Bool, true, ◌&&◌, ◌||◌, not, nat_lt, nat_le, is_some, is_none, List, [], ◌∷◌, Option, Some, None, slice_get, if◌then◌else◌}
 use Rattle.type_table.specs.declared.info.Shape.{Shape}
 use Rattle.type_table.specs.declared.info.TypeInfo.{TypeInfo}
 use Rattle.type_table.specs.Words.{words_in}
@@ -29,6 +29,22 @@ ranges =
 abbrev pub is_outside : Option (ℕ × ℕ) → ℕ → Bool
 is_outside None value = true
 is_outside (Some range) value = nat_lt value range.0 || nat_lt range.1 value
+
+-- each value lies in its range
+abbrev pub AreWithin : List (ℕ × ℕ) → List ℕ → Type 0
+AreWithin [] values = Unit {0}
+AreWithin (range ∷ ranges) [] = ⊥
+AreWithin (range ∷ ranges) (value ∷ values) = (range.0 ≤ value) × (value ≤ range.1) × AreWithin ranges values
+
+-- the values of the settings, in their order
+abbrev pub values_of : Settings → List ℕ
+values_of settings =
+    settings.nursery ∷ settings.young ∷ settings.limit ∷ settings.increment ∷ settings.minimum ∷ settings.sweep ∷ settings.pins ∷ settings.page
+    ∷ settings.arena ∷ settings.small ∷ settings.card ∷ settings.roots ∷ settings.queues ∷ []
+
+-- each setting lies in its range
+abbrev pub AreInRange : Settings → Type 0
+AreInRange settings = AreWithin ranges (values_of settings)
 
 -- of a setting: whether a command came, whether its name was set, its number and its value
 abbrev pub setting_checks : Bool → Bool → ℕ → ℕ → Checks

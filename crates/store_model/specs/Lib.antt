@@ -6,6 +6,9 @@ pub mod Object
 pub mod Store
 pub mod Slots
 pub mod Birth
+pub mod Layout
+pub mod ObjectWords
+pub mod Holds
 pub mod Steps
 pub mod Progress
 pub mod Shapes
@@ -13,6 +16,9 @@ pub mod Range
 pub mod Checks
 pub mod StructChecks
 pub mod Structs
+pub mod Roots
+pub mod Sound
+pub mod Look
 pub mod Links
 pub mod Refusal
 pub mod Transcript

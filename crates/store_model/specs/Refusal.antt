@@ -9,12 +9,11 @@ use Rattle.store_model.specs.declared.item.Reason.{Reason}
 use Rattle.store_model.specs.declared.item.Reason.TheVariants.{NotBuilt, Range}
 use Rattle.store_model.specs.Sets.{is_in}
 use Rattle.store_model.specs.Setup.{Setup, type_at}
-use Rattle.store_model.specs.Store.{Store, kept_words, unsettled_words}
-use Rattle.store_model.specs.Slots.{held}
-use Rattle.store_model.specs.Shapes.{kind_in, is_fixed_shape, is_array_shape, is_weak_shape}
+use Rattle.store_model.specs.Look.{Look, look}
+use Rattle.store_model.specs.Shapes.{is_fixed_shape, is_array_shape, is_weak_shape}
 use Rattle.store_model.specs.Range.{is_above}
 use Rattle.store_model.specs.Checks.{Checks, first_reason, setting_checks, type_checks, slots_checks, found_checks, born_checks, type_words, room_checks, int_checks, ref_checks, copy_checks}
-use Rattle.store_model.specs.StructChecks.{weak_checks, unpin_checks, queue_checks, register_checks, has_p_link, link_checks, struct_checks, inc_checks, dec_checks}
+use Rattle.store_model.specs.StructChecks.{weak_checks, unpin_checks, queue_checks, register_checks, link_checks, struct_checks, inc_checks, dec_checks}
 use Rattle.store_model.specs.Progress.{Progress}
 
 -- the root slots that a command names, in order of writing
@@ -64,66 +63,71 @@ is_unbuilt (Same a b) = false
 is_unbuilt command = true
 
 -- the checks on what the slots and numbers of a command lead to
-abbrev pub further_checks : Setup → Store → Command → Checks
-further_checks setup store (NewFixed root type_id) = born_checks (type_at setup type_id) is_fixed_shape
-further_checks setup store (NewArray root type_id len) = born_checks (type_at setup type_id) is_array_shape
-further_checks setup store (NewWeak root type_id target) =
-    found_checks (kind_in store.slots store.kept target) ++ born_checks (type_at setup type_id) is_weak_shape
-further_checks setup store (Put root item value) = int_checks (kind_in store.slots store.kept root) item
-further_checks setup store (Get root item) = int_checks (kind_in store.slots store.kept root) item
-further_checks setup store (Link root item from) = ref_checks (kind_in store.slots store.kept root) item
-further_checks setup store (Load to root item) = ref_checks (kind_in store.slots store.kept root) item
-further_checks setup store (CopyRefs root item from from_item count) =
-    copy_checks (kind_in store.slots store.kept root) (kind_in store.slots store.kept from) (item + count) (from_item + count)
-further_checks setup store (MoveRoot to from) = []
-further_checks setup store (DropRoot root) = []
-further_checks setup store (Same a b) = []
-further_checks setup store (Ident root) = found_checks (kind_in store.slots store.kept root)
-further_checks setup store (Hash root) = found_checks (kind_in store.slots store.kept root)
-further_checks setup store (Place root) = found_checks (kind_in store.slots store.kept root)
-further_checks setup store (Pin root) = found_checks (kind_in store.slots store.kept root)
-further_checks setup store (Unpin root) =
-    found_checks (kind_in store.slots store.kept root) ++ unpin_checks (held store.slots root) store.pinned
-further_checks setup store (Deref to root) = weak_checks (kind_in store.slots store.kept root)
-further_checks setup store (Register root queue) =
-    found_checks (kind_in store.slots store.kept root)
-    ++ (queue_checks setup.settings.queues queue ++ register_checks (held store.slots root) store.ever)
-further_checks setup store (NextFinal to queue) = queue_checks setup.settings.queues queue
-further_checks setup store (MakeLink p number root light own) =
-    found_checks (kind_in store.slots store.kept root)
-    ++ link_checks (value_at store.structs number) p (has_p_link store.structs (held store.slots root))
-further_checks setup store (Inc number) = inc_checks (value_at store.structs number)
-further_checks setup store (Dec number) = dec_checks (value_at store.structs number)
-further_checks setup store (Count number) = struct_checks (value_at store.structs number)
-further_checks setup store (FromObj root) = found_checks (kind_in store.slots store.kept root)
-further_checks setup store (ToObj to number) = struct_checks (value_at store.structs number)
-further_checks setup store NextDead = []
-further_checks setup store Minor = []
-further_checks setup store Step = []
-further_checks setup store Collect = []
-further_checks setup store Used = []
+abbrev pub further_checks : Setup → Look → Command → Checks
+further_checks setup seen (NewFixed root type_id) = born_checks (type_at setup type_id) is_fixed_shape
+further_checks setup seen (NewArray root type_id len) = born_checks (type_at setup type_id) is_array_shape
+further_checks setup seen (NewWeak root type_id target) =
+    found_checks (seen.kind target) ++ born_checks (type_at setup type_id) is_weak_shape
+further_checks setup seen (Put root item value) = int_checks (seen.kind root) item
+further_checks setup seen (Get root item) = int_checks (seen.kind root) item
+further_checks setup seen (Link root item from) = ref_checks (seen.kind root) item
+further_checks setup seen (Load to root item) = ref_checks (seen.kind root) item
+further_checks setup seen (CopyRefs root item from from_item count) =
+    copy_checks (seen.kind root) (seen.kind from) (item + count) (from_item + count)
+further_checks setup seen (MoveRoot to from) = []
+further_checks setup seen (DropRoot root) = []
+further_checks setup seen (Same a b) = []
+further_checks setup seen (Ident root) = found_checks (seen.kind root)
+further_checks setup seen (Hash root) = found_checks (seen.kind root)
+further_checks setup seen (Place root) = found_checks (seen.kind root)
+further_checks setup seen (Pin root) = found_checks (seen.kind root)
+further_checks setup seen (Unpin root) =
+    found_checks (seen.kind root) ++ unpin_checks (seen.is_pinned root)
+further_checks setup seen (Deref to root) = weak_checks (seen.kind root)
+further_checks setup seen (Register root queue) =
+    found_checks (seen.kind root)
+    ++ (queue_checks setup.settings.queues queue ++ register_checks (seen.was_registered root))
+further_checks setup seen (NextFinal to queue) = queue_checks setup.settings.queues queue
+further_checks setup seen (MakeLink p number root light own) =
+    found_checks (seen.kind root)
+    ++ link_checks (seen.structure number) p (seen.has_p_link root)
+further_checks setup seen (Inc number) = inc_checks (seen.structure number)
+further_checks setup seen (Dec number) = dec_checks (seen.structure number)
+further_checks setup seen (Count number) = struct_checks (seen.structure number)
+further_checks setup seen (FromObj root) = found_checks (seen.kind root)
+further_checks setup seen (ToObj to number) = struct_checks (seen.structure number)
+further_checks setup seen NextDead = []
+further_checks setup seen Minor = []
+further_checks setup seen Step = []
+further_checks setup seen Collect = []
+further_checks setup seen Used = []
 
 -- the checks on words, which are the last
-abbrev pub words_checks : Setup → Store → Command → Checks
-words_checks setup store (NewFixed root type_id) =
-    room_checks setup.settings (type_words (type_at setup type_id) 0) (unsettled_words store.kept store.settled) (kept_words store.kept)
-words_checks setup store (NewArray root type_id len) =
-    room_checks setup.settings (type_words (type_at setup type_id) len) (unsettled_words store.kept store.settled) (kept_words store.kept)
-words_checks setup store command = []
+abbrev pub words_checks : Setup → Look → Command → Checks
+words_checks setup seen (NewFixed root type_id) =
+    room_checks setup.settings (type_words (type_at setup type_id) 0) seen.unsettled seen.kept
+words_checks setup seen (NewArray root type_id len) =
+    room_checks setup.settings (type_words (type_at setup type_id) len) seen.unsettled seen.kept
+words_checks setup seen command = []
 
 -- the checks of a command none of whose numbers is out of range, in order
-abbrev pub checks_in_range : Setup → Store → Command → Checks
-checks_in_range setup store command =
+abbrev pub checks_in_range : Setup → Look → Command → Checks
+checks_in_range setup seen command =
     (is_unbuilt command, NotBuilt)
-    ∷ (slots_checks setup.settings.roots (slots_of command) ++ (further_checks setup store command ++ words_checks setup store command))
+    ∷ (slots_checks setup.settings.roots (slots_of command) ++ (further_checks setup seen command ++ words_checks setup seen command))
 
 -- all checks of a command, in order
-abbrev pub command_checks : Setup → Store → Command → Checks
-command_checks setup store command = (is_above command, Range) ∷ checks_in_range setup store command
+abbrev pub command_checks : Setup → Look → Command → Checks
+command_checks setup seen command = (is_above command, Range) ∷ checks_in_range setup seen command
 
--- why an item is refused, if it is
-unfoldable pub refusal : Progress → Item → Option Reason
-refusal at Blank = None
-refusal at (Setting name value) = first_reason (setting_checks at.late (is_in name at.set_names) name value)
-refusal at (TypeDef id info) = first_reason (type_checks info.destructor at.late (value_at at.setup.types id) (length at.setup.types))
-refusal at (CommandItem command) = first_reason (command_checks at.setup at.store command)
+-- Why an item is refused where settings and types are so, these settings were set, a command came or not, and the store looks so.
+unfoldable pub refusal_seen : Setup → List ℕ → Bool → Look → Item → Option Reason
+refusal_seen setup names late seen Blank = None
+refusal_seen setup names late seen (Setting name value) = first_reason (setting_checks late (is_in name names) name value)
+refusal_seen setup names late seen (TypeDef id info) =
+    first_reason (type_checks info.destructor late (value_at setup.types id) (length setup.types))
+refusal_seen setup names late seen (CommandItem command) = first_reason (command_checks setup seen command)
+
+-- why an item is refused where a script stands, if it is
+abbrev pub refusal : Progress → Item → Option Reason
+refusal at item = refusal_seen at.setup at.set_names at.late (look at.store) item

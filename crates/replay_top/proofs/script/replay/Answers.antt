@@ -1,6 +1,6 @@
 use Rattle.std.proofs.Common.{Err, take, sym, ap, subst, ◌∙◌, arith}
 use Rattle.std.proofs.lemmas.Result.{err_from_is_err_and}
-use Rattle.replay_top.specs.Parts.{HeapParts}
+use Rattle.heap_core.specs.Parts.{HeapSeen}
 use Rattle.replay_top.proofs.RunsOn.{RunsOn, runs_from, runs_on}
 use Rattle.replay_top.proofs.RunEnds.{ends_unbegun, ends_unread, ends_done, ends_reading, ends_line}
 use Rattle.replay_top.proofs.script.replay.Goals as goal
@@ -24,9 +24,9 @@ lines-init g c =
     let script = g.F.Files.bytes c.args.files.now c.args.name.now in
     let rest = g.F.Files.rest c.begin_file.new.self in
     let written = g.K.Sink.written c.args.out.now in
-    let P : HeapParts → Type 0 = RunsOn script rest written written c.in_ok-reader.reader 0 c.in_ok-session.session in
+    let P : HeapSeen → Type 0 = RunsOn script rest written written c.in_ok-reader.reader 0 c.in_ok-session.session in
     record {
-      run = subst P (sym c.requires.closed) (runs_from script rest written c.in_ok-reader.reader c.in_ok-session.session c.in-Ok.ensures.begun c.in_ok-reader.ensures c.in_ok-session.ensures.0 c.in_ok-session.ensures.1 c.in_ok-session.ensures.2);
+      run = subst P (sym c.requires.closed) (runs_from script rest written c.in_ok-reader.reader c.in_ok-session.session c.in-Ok.ensures.begun c.in_ok-reader.ensures c.in_ok-session.ensures);
       few = omega arith;
       read_later = omega (arith, c.in-Ok.ensures.cause.later);
       write_later = omega arith;
@@ -64,3 +64,6 @@ returns-in-Err-clause-ends g c =
     let reads = c.in-Err.ensures.reads in
     ends_reading (g.F.Files.bytes c.args.files.now c.args.name.now) (g.F.Files.rest c.lines.files) (g.F.Files.rest c.next.new.files) (g.K.Sink.written c.args.out.now) (g.K.Sink.written c.lines.out)
     c.lines.reader c.next.new.self c.lines.number c.lines.session c.lines.heap c.next.new.line c.in-Err.end c.stop_of_reader.result c.lines.invariant.run reads c.stop_of_reader.ensures
+
+pub do_line-requires-clause-placed : goal.do_line-requires-clause-placed
+do_line-requires-clause-placed g c = record { at = c.lines.invariant.run.at; stands = c.lines.invariant.run.stands }

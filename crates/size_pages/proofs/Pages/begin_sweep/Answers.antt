@@ -1,5 +1,5 @@
-use Rattle.std.proofs.Common.{arith, ◌+◌, ◌-◌, ◌≡◌, ℕ, subst, sym}
-use Rattle.size_pages.proofs.BeginSweepLaws.{WaitsFrom, waits_from_last, can_wait_next, waits_next, sweep_begun}
+use Rattle.std.proofs.Common.{arith, ◌+◌, ◌-◌, ◌≡◌, ℕ, subst}
+use Rattle.size_pages.proofs.BeginSweepLaws.{WaitsFrom, waits_from_last, waits_next, sweep_begun}
 use Rattle.size_pages.proofs.Pages.begin_sweep.Goals as goal
 
 pub loop-number-init : goal.loop-number-init

@@ -1,7 +1,7 @@
-use Rattle.std.proofs.Common.{◌+◌}
+use Rattle.std.proofs.Common.{◌+◌, ◌∙◌}
 use Rattle.size_pages.specs.PageWords.{word_in}
 use Rattle.size_pages.proofs.EndLaws.{end_put_on, end_fits, same_block}
-use Rattle.size_pages.proofs.AroundLaws.{around_moved, cleared_around, end_keeps, sizes_then, sizes_heads}
+use Rattle.size_pages.proofs.AroundLaws.{beside_off, head_page, around_moved, cleared_around, end_keeps, sizes_then, sizes_heads}
 use Rattle.size_pages.proofs.FitsLaws.{header_has, places_of, below_of}
 use Rattle.size_pages.proofs.ArenaLaws.{all_after, arenas_then}
 use Rattle.size_pages.proofs.Pages.end_page.Goals as goal
@@ -19,7 +19,8 @@ pub returns-clause-kept : goal.returns-clause-kept
 returns-clause-kept c = end_keeps c.args.self.now c.take_off.new.self c.lower.new.self c.put_on.new.self c.args.space.now c.take_off.new.space c.clear_page.new.space c.put_on.new.space c.args.page c.args.a c.args.n c.args.list c.requires c.take_off.ensures.off c.take_off.ensures.unlinks c.take_off.ensures.signs c.take_off.ensures.heads c.lower.ensures c.clear_page.ensures.clears c.clear_page.ensures.arenas c.put_on.ensures.links
 
 pub returns-clause-around : goal.returns-clause-around
-returns-clause-around c = around_moved (word_in c.args.space.now) (word_in c.take_off.new.space) (word_in c.clear_page.new.space) (word_in c.put_on.new.space) c.args.self.now.heads.items c.take_off.new.self.heads.items c.lower.new.self.heads.items c.put_on.new.self.heads.items c.args.page c.args.a c.args.list 0 0 c.take_off.ensures.unlinks
+returns-clause-around c = around_moved (word_in c.args.space.now) (word_in c.take_off.new.space) (word_in c.clear_page.new.space) (word_in c.put_on.new.space) c.args.self.now.heads.items c.take_off.new.self.heads.items c.lower.new.self.heads.items c.put_on.new.self.heads.items c.args.self.now.page c.args.self.now.count c.args.page c.args.a c.args.list 0 0 (beside_off c.args.self.now c.args.space.now c.args.page c.args.list c.requires.off)
+    (head_page c.args.self.now c.lower.new.self c.clear_page.new.space c.args.page 0 0 (end_put_on c.args.self.now c.take_off.new.self c.lower.new.self c.args.space.now c.take_off.new.space c.clear_page.new.space c.args.page c.args.a c.args.n c.args.list c.requires c.take_off.ensures.off c.take_off.ensures.signs c.take_off.ensures.heads c.lower.ensures c.clear_page.ensures.clears c.clear_page.ensures.arenas) (c.lower.ensures.sizes.page ∙ c.take_off.ensures.heads.page) (c.lower.ensures.count ∙ c.take_off.ensures.heads.count)) c.take_off.ensures.unlinks
     (cleared_around (word_in c.take_off.new.space) (word_in c.clear_page.new.space) c.args.page c.args.a c.clear_page.ensures.clears) c.put_on.ensures.links
 
 pub returns-clause-sizes : goal.returns-clause-sizes

@@ -1,9 +1,9 @@
-use Rattle.std.proofs.Common.{arith, ◌≡◌, ◌≢◌, ◌∙◌, ◌+◌, ◌-◌, ◌*◌, ◌/◌, ◌≤◌, ◌<◌, sym, inl, inr, ap, subst, ℕ, refl}
+use Rattle.std.proofs.Common.{arith, ◌≡◌, ◌≢◌, ◌∙◌, ◌+◌, ◌*◌, ◌≤◌, sym, inl, inr, ap, ℕ, refl}
 use Rattle.size_pages.specs.PageWords.{word_in}
 use Rattle.object_header.specs.Words.{has_flag}
 use Rattle.object_header.specs.declared.flags.Flag.TheVariants.{Free}
 use Rattle.size_pages.proofs.ListingLaws.{slots_count, slot_inside}
-use Rattle.size_pages.proofs.GatherLaws.{BirthsTo, swept_page, births_none, births_slot, births_end}
+use Rattle.size_pages.proofs.GatherLaws.{swept_page, births_none, births_slot, births_end}
 use Rattle.size_pages.specs.Sweeping.{is_dead}
 use Rattle.size_pages.proofs.Pages.gather_births.Goals.{then-not-is_set+then-is_dead+in_ok-push, else-not-is_set, else-not-is_set-via-then-not-is_set+else-is_dead, else-not-is_set-via-else-not-is_set}
 use Rattle.size_pages.proofs.Pages.gather_births.Goals as goal

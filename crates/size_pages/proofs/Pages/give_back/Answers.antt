@@ -1,6 +1,9 @@
-use Rattle.std.proofs.Common.{arith}
+use Rattle.std.proofs.Common.{arith, ℕ, subst}
 use Rattle.size_pages.proofs.EndLaws.{give_facts, can_end, can_give_full, give_plain}
 use Rattle.size_pages.proofs.KeepLaws.{given_keeps}
+use Rattle.size_pages.proofs.AroundLaws.{around_given}
+use Rattle.size_pages.specs.PageWords.{word_in}
+use Rattle.size_pages.specs.Calls.{ChangesAround}
 use Rattle.size_pages.proofs.Pages.give_back.Goals as goal
 
 pub load-kind-requires : goal.load-kind-requires
@@ -56,3 +59,13 @@ returns-then-kind-eq-FULL-clause-stands c = let l = c.requires in record { live 
 
 pub returns-clause-stands : goal.returns-clause-stands
 returns-clause-stands c = let l = c.requires in record { live = l.others; waiting = l.waiting; fits = give_plain c.args.self.now c.args.space.now c.put_on_chain-2.new.space c.page_of-page.result c.args.a c.args.n c.load-kind.result c.load-live.result c.page_of-page.ensures c.load-kind.ensures c.load-live.ensures c.if-kind-eq-FULL.false (λ e. c.if-live-eq1.false) c.put_on_chain-2.ensures.gives c.put_on_chain-2.ensures.arenas l.others l.waiting l.fits }
+
+pub returns-then-kind-eq-WAITING-clause-around : goal.returns-then-kind-eq-WAITING-clause-around
+returns-then-kind-eq-WAITING-clause-around c =
+    let P : ℕ → Type 0 = λ p. ChangesAround (word_in c.args.space.now) (word_in c.put_on_chain.new.space) c.args.self.now.page c.args.self.now.count p c.args.a in
+    subst P c.page_of-page.ensures (around_given (word_in c.args.space.now) (word_in c.put_on_chain.new.space) c.args.self.now.page c.args.self.now.count c.page_of-page.result c.args.a c.put_on_chain.ensures.gives)
+
+pub returns-clause-around : goal.returns-clause-around
+returns-clause-around c =
+    let P : ℕ → Type 0 = λ p. ChangesAround (word_in c.args.space.now) (word_in c.put_on_chain-2.new.space) c.args.self.now.page c.args.self.now.count p c.args.a in
+    subst P c.page_of-page.ensures (around_given (word_in c.args.space.now) (word_in c.put_on_chain-2.new.space) c.args.self.now.page c.args.self.now.count c.page_of-page.result c.args.a c.put_on_chain-2.ensures.gives)

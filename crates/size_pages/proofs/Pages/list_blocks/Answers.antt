@@ -1,6 +1,6 @@
-use Rattle.std.proofs.Common.{arith, ◌≡◌, ◌∙◌, ◌+◌, ◌-◌, ◌*◌, ◌/◌, ◌≤◌, ◌<◌, sym, inl, inr, ap, subst, ℕ, refl}
+use Rattle.std.proofs.Common.{arith, ◌∙◌, ◌+◌, ◌*◌, ◌≤◌, sym, inl, inr, ap, ℕ}
 use Rattle.size_pages.specs.PageWords.{word_in}
-use Rattle.size_pages.proofs.ListingLaws.{ListsTo, listed_page, unused_lists, lists_begin, slots_of, slots_count, slot_inside, lists_slot, lists_end, listed_none}
+use Rattle.size_pages.proofs.ListingLaws.{listed_page, unused_lists, lists_begin, slots_of, slots_count, slot_inside, lists_slot, lists_end, listed_none}
 use Rattle.object_header.specs.Words.{has_flag}
 use Rattle.object_header.specs.declared.flags.Flag.TheVariants.{Free}
 use Rattle.size_pages.proofs.Pages.list_blocks.Goals.{then-not-is_set+in_ok-push, else-not-is_set}

@@ -1,6 +1,5 @@
-use Rattle.std.proofs.Common.{arith, ◌≡◌, ◌≢◌, ◌∙◌, ◌+◌, ◌-◌, ◌*◌, ◌≤◌, sym}
-use Rattle.size_pages.specs.PageWords.{word_in}
-use Rattle.size_pages.proofs.RelistLaws.{is_listed_page, used_page_words, first_header, ended_put, ended_relists, swept_put, swept_relists}
+use Rattle.std.proofs.Common.{arith, ◌∙◌, ◌+◌, ◌-◌, ◌*◌, sym}
+use Rattle.size_pages.proofs.RelistLaws.{is_listed_page, first_header, ended_put, ended_relists, swept_put, swept_relists}
 use Rattle.size_pages.proofs.Pages.relist.Goals as goal
 
 pub load-requires : goal.load-requires

@@ -1,4 +1,4 @@
-use Rattle.std.proofs.Common.{arith, ◌≡◌, ◌≢◌, ◌∙◌, ◌+◌, ◌-◌, ◌*◌, ◌/◌, ◌≤◌, ◌<◌, sym, ap, ℕ, refl}
+use Rattle.std.proofs.Common.{arith, ◌≡◌, ◌∙◌, ◌+◌, ◌*◌, ◌≤◌, ap, ℕ, refl}
 use Rattle.size_pages.specs.PageWords.{word_in}
 use Rattle.size_pages.proofs.ListingLaws.{slots_count, slot_inside}
 use Rattle.size_pages.proofs.GatherLaws.{swept_page}

@@ -1,4 +1,3 @@
-use Rattle.std.proofs.Common.{arith, ◌≡◌, ◌<◌, length, slice_index}
 use Rattle.size_pages.proofs.ResultLaws.{index_default}
 use Rattle.size_pages.proofs.PageSweepLaws.{heads_there, can_sweep_at, can_relist, page_swept, stands_swept}
 use Rattle.size_pages.proofs.Pages.sweep_page.Goals as goal

@@ -1,6 +1,4 @@
-use Rattle.std.proofs.Common.{arith, ◌≡◌, ◌∙◌, sym, ◌+◌, ◌-◌, ◌*◌, subst, ℕ}
-use Rattle.size_pages.specs.Steps.{CanTakeOff}
-use Rattle.size_pages.specs.PageWords.{word_in}
+use Rattle.std.proofs.Common.{arith, ◌∙◌, sym, ◌+◌, ◌-◌, ◌*◌}
 use Rattle.size_pages.proofs.QueueLaws.{wait_facts, wait_off, can_put_waiting, waits_none, waits_more}
 use Rattle.size_pages.proofs.Pages.wait_page.Goals as goal
 

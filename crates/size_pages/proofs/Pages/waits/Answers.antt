@@ -1,4 +1,4 @@
-use Rattle.std.proofs.Common.{arith, sym, ◌∙◌, ℕ, subst}
+use Rattle.std.proofs.Common.{sym, ◌∙◌, ℕ, subst}
 use Rattle.size_pages.specs.PageLists.{IsIn}
 use Rattle.size_pages.proofs.WaitLaws.{live_page, waits_exactly, nat_eq_true, nat_eq_same}
 use Rattle.size_pages.proofs.Pages.waits.Goals as goal

@@ -1,4 +1,4 @@
-use Rattle.std.proofs.Common.{ap, ◌∙◌, refl, []}
+use Rattle.std.proofs.Common.{ap, []}
 use Rattle.heap_space.specs.Memory.{Memory}
 use Rattle.size_pages.proofs.tests.a_free_block_comes_again.Goals as goal
 

@@ -1,4 +1,4 @@
-use Rattle.std.proofs.Common.{ap, ◌∙◌, refl, [], ◌∷◌, List, ℕ}
+use Rattle.std.proofs.Common.{ap, [], ◌∷◌, List, ℕ}
 use Rattle.heap_space.specs.Memory.{Memory}
 use Rattle.size_pages.specs.PageLists.{IsIn}
 use Rattle.size_pages.specs.HasBlocks.{HasBlocks}

@@ -1,4 +1,4 @@
-use Rattle.std.proofs.Common.{ap, ◌∙◌, refl, []}
+use Rattle.std.proofs.Common.{ap, []}
 use Rattle.heap_space.specs.Memory.{Memory}
 use Rattle.size_pages.proofs.tests.pages_are_begun_filled_and_ended.Goals as goal
 

@@ -1,0 +1,11 @@
+pub mod Births
+pub mod SoundLaws
+pub mod ToldLaws
+pub mod Sums
+pub mod StandLaws
+pub mod Ready
+pub mod Commands
+pub mod Calls
+pub mod BirthLaws
+pub mod Runs
+pub mod TestStores

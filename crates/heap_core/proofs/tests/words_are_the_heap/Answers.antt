@@ -1,0 +1,69 @@
+use Rattle.heap_core.proofs.TestStores.{started, bears_next, links, writes, relinks, can_first, can_second, can_third, can_link, can_write, can_relink, can_get, can_load}
+use Rattle.heap_core.proofs.tests.words_are_the_heap.Goals as goal
+
+pub new_object-requires : goal.new_object-requires
+new_object-requires g c =
+    let r0 = started c.in_ok-types.types c.start.new.self c.in_ok-types.ensures c.in_ok-start.ensures.started c.in_ok-start.ensures.empty in
+    can_first c.start.new.self r0
+
+pub new_object-requires-2 : goal.new_object-requires-2
+new_object-requires-2 g c =
+    let r0 = started c.in_ok-types.types c.start.new.self c.in_ok-types.ensures c.in_ok-start.ensures.started c.in_ok-start.ensures.empty in
+    let r1 = bears_next 0 c.start.new.self c.new_object.new.self _ _ r0 c.in_ok-new_object.ensures.born in
+    can_second c.new_object.new.self r1
+
+pub new_object-requires-3 : goal.new_object-requires-3
+new_object-requires-3 g c =
+    let r0 = started c.in_ok-types.types c.start.new.self c.in_ok-types.ensures c.in_ok-start.ensures.started c.in_ok-start.ensures.empty in
+    let r1 = bears_next 0 c.start.new.self c.new_object.new.self _ _ r0 c.in_ok-new_object.ensures.born in
+    let r2 = bears_next 1 c.new_object.new.self c.new_object-2.new.self _ _ r1 c.in_ok-new_object-2.ensures.born in
+    can_third c.new_object-2.new.self r2
+
+pub link-requires : goal.link-requires
+link-requires g c =
+    let r0 = started c.in_ok-types.types c.start.new.self c.in_ok-types.ensures c.in_ok-start.ensures.started c.in_ok-start.ensures.empty in
+    let r1 = bears_next 0 c.start.new.self c.new_object.new.self _ _ r0 c.in_ok-new_object.ensures.born in
+    let r2 = bears_next 1 c.new_object.new.self c.new_object-2.new.self _ _ r1 c.in_ok-new_object-2.ensures.born in
+    let r3 = bears_next 2 c.new_object-2.new.self c.new_object-3.new.self _ _ r2 c.in_ok-new_object-3.ensures.born in
+    can_link c.new_object-3.new.self r3
+
+pub write_int-requires : goal.write_int-requires
+write_int-requires g c =
+    let r0 = started c.in_ok-types.types c.start.new.self c.in_ok-types.ensures c.in_ok-start.ensures.started c.in_ok-start.ensures.empty in
+    let r1 = bears_next 0 c.start.new.self c.new_object.new.self _ _ r0 c.in_ok-new_object.ensures.born in
+    let r2 = bears_next 1 c.new_object.new.self c.new_object-2.new.self _ _ r1 c.in_ok-new_object-2.ensures.born in
+    let r3 = bears_next 2 c.new_object-2.new.self c.new_object-3.new.self _ _ r2 c.in_ok-new_object-3.ensures.born in
+    let r4 = links c.new_object-3.new.self c.link.new.self r3 c.link.ensures.changes in
+    can_write c.link.new.self r4
+
+pub write_ref-requires : goal.write_ref-requires
+write_ref-requires g c =
+    let r0 = started c.in_ok-types.types c.start.new.self c.in_ok-types.ensures c.in_ok-start.ensures.started c.in_ok-start.ensures.empty in
+    let r1 = bears_next 0 c.start.new.self c.new_object.new.self _ _ r0 c.in_ok-new_object.ensures.born in
+    let r2 = bears_next 1 c.new_object.new.self c.new_object-2.new.self _ _ r1 c.in_ok-new_object-2.ensures.born in
+    let r3 = bears_next 2 c.new_object-2.new.self c.new_object-3.new.self _ _ r2 c.in_ok-new_object-3.ensures.born in
+    let r4 = links c.new_object-3.new.self c.link.new.self r3 c.link.ensures.changes in
+    let r5 = writes c.link.new.self c.write_int.new.heap r4 c.write_int.ensures.changes in
+    can_relink c.write_int.new.heap r5
+
+pub get-requires : goal.get-requires
+get-requires g c =
+    let r0 = started c.in_ok-types.types c.start.new.self c.in_ok-types.ensures c.in_ok-start.ensures.started c.in_ok-start.ensures.empty in
+    let r1 = bears_next 0 c.start.new.self c.new_object.new.self _ _ r0 c.in_ok-new_object.ensures.born in
+    let r2 = bears_next 1 c.new_object.new.self c.new_object-2.new.self _ _ r1 c.in_ok-new_object-2.ensures.born in
+    let r3 = bears_next 2 c.new_object-2.new.self c.new_object-3.new.self _ _ r2 c.in_ok-new_object-3.ensures.born in
+    let r4 = links c.new_object-3.new.self c.link.new.self r3 c.link.ensures.changes in
+    let r5 = writes c.link.new.self c.write_int.new.heap r4 c.write_int.ensures.changes in
+    let r6 = relinks c.write_int.new.heap c.write_ref.new.heap r5 c.write_ref.ensures.changes in
+    can_get c.write_ref.new.heap r6
+
+pub load-requires : goal.load-requires
+load-requires g c =
+    let r0 = started c.in_ok-types.types c.start.new.self c.in_ok-types.ensures c.in_ok-start.ensures.started c.in_ok-start.ensures.empty in
+    let r1 = bears_next 0 c.start.new.self c.new_object.new.self _ _ r0 c.in_ok-new_object.ensures.born in
+    let r2 = bears_next 1 c.new_object.new.self c.new_object-2.new.self _ _ r1 c.in_ok-new_object-2.ensures.born in
+    let r3 = bears_next 2 c.new_object-2.new.self c.new_object-3.new.self _ _ r2 c.in_ok-new_object-3.ensures.born in
+    let r4 = links c.new_object-3.new.self c.link.new.self r3 c.link.ensures.changes in
+    let r5 = writes c.link.new.self c.write_int.new.heap r4 c.write_int.ensures.changes in
+    let r6 = relinks c.write_int.new.heap c.write_ref.new.heap r5 c.write_ref.ensures.changes in
+    can_load c.write_ref.new.heap r6

@@ -1,0 +1,103 @@
+-- What the calls of a heap ask, and what they do to each store that the heap stands for.
+use Rattle.std.specs.Prelude.{◌≡◌, ℕ, Bool, true, false, List, ◌++◌, Option, Some, None, option_map, Result, Ok, Err, ◌⊎◌}
+use Rattle.type_table.specs.declared.info.TypeInfo.{TypeInfo}
+use Rattle.type_table.specs.Table.{value_at}
+use Rattle.store_model.specs.declared.command.Command.{Command}
+use Rattle.store_model.specs.declared.command.Command.TheVariants.{NewFixed, NewArray}
+use Rattle.store_model.specs.declared.line.Line.{Line}
+use Rattle.store_model.specs.declared.structure.StructState.TheVariants.{Absent}
+use Rattle.store_model.specs.Setup.{Setup}
+use Rattle.store_model.specs.Store.{Store}
+use Rattle.store_model.specs.Checks.{first_reason}
+use Rattle.store_model.specs.Look.{Look}
+use Rattle.store_model.specs.Refusal.{command_checks}
+use Rattle.store_model.specs.Birth.{Request, Birth}
+use Rattle.heap_core.specs.declared.fault.HeapFault.{HeapFault}
+use Rattle.heap_core.specs.declared.fault.HeapFault.TheVariants.{Spent, OutOfMemory}
+use Rattle.heap_core.specs.Parts.{HeapParts, HeapSeen}
+use Rattle.heap_core.specs.Told.{told}
+use Rattle.heap_core.specs.StandsFor.{PartsStandFor, StandsFor}
+
+-- the parts stand for some store
+pub record AreStanding (parts : HeapParts) : Type 0 where
+  pub store : Store
+  pub stands : PartsStandFor parts store
+
+-- they do, and the command is not refused there
+pub record AreReady (parts : HeapParts) (command : Command) : Type 0 where
+  pub standing : AreStanding parts
+  pub accepted : first_reason (command_checks parts.setup (told parts) command) ≡ None
+
+-- something holds of the parts of a heap that was started and is not spent
+abbrev pub OfParts : Option HeapParts → (HeapParts → Type 0) → Type 0
+OfParts None P = ⊥
+OfParts (Some parts) P = P parts
+
+-- the heap was started, is not spent, and stands for some store
+abbrev pub IsStanding : HeapSeen → Type 0
+IsStanding heap = OfParts heap.parts AreStanding
+
+abbrev pub CanDoIf : Bool → Option HeapParts → Command → Type 0
+CanDoIf true parts command = Unit {0}
+CanDoIf false parts command = OfParts parts (λ found. AreReady found command)
+
+-- the heap is spent, or was started and stands for a store in which the command is not refused
+abbrev pub CanDo : HeapSeen → Command → Type 0
+CanDo heap command = CanDoIf heap.is_spent heap.parts command
+
+-- the same of a birth: of a fixed object, which has no items of its own choice, or of an array of so many
+abbrev pub CanBear : HeapSeen → ℕ → ℕ → ℕ → Type 0
+CanBear heap root type_id items = CanDo heap (NewArray root type_id items) ⊎ ((items ≡ 0) × CanDo heap (NewFixed root type_id))
+
+-- how a call fails that can only want memory, but on a spent heap
+abbrev pub fault_of : Bool → HeapFault
+fault_of true = Spent
+fault_of false = OutOfMemory
+
+-- the settings and types of a heap that was started
+abbrev pub setup_in : HeapSeen → Option Setup
+setup_in heap = option_map (λ parts. parts.setup) heap.parts
+
+abbrev pub type_found : Option HeapParts → ℕ → Option TypeInfo
+type_found None id = None
+type_found (Some parts) id = value_at parts.setup.types id
+
+-- what a heap without parts tells
+abbrev pub nothing_told : Look
+nothing_told = record {
+  kind = λ root. None;
+  is_pinned = λ root. false;
+  was_registered = λ root. false;
+  has_p_link = λ root. false;
+  structure = λ number. Absent;
+  unsettled = 0;
+  kept = 0;
+}
+
+abbrev pub told_if : Option HeapParts → Look
+told_if None = nothing_told
+told_if (Some parts) = told parts
+
+-- what a caller can be told of a heap
+abbrev pub told_by : HeapSeen → Look
+told_by heap = told_if heap.parts
+
+-- a call that is done, but on a spent heap
+abbrev pub done_unless : Bool → Result (Unit {0}) HeapFault
+done_unless true = Err Spent
+done_unless false = Ok tt
+
+-- settings and types stay, and each store that the heap stood for becomes this one
+pub record Changes (old new : HeapSeen) (change : Store → Store) : Type 0 where
+  pub setup : setup_in new ≡ setup_in old
+  pub same_spent : new.is_spent ≡ old.is_spent
+  pub stands : (store : Store) → StandsFor old store → StandsFor new (change store)
+
+-- an object is born for the request, its lines are appended, and the heap stands for the store with it
+pub record Bears (old new : HeapSeen) (request : Request) (before after : List Line) : Type 0 where
+  pub setup : setup_in new ≡ setup_in old
+  pub same_spent : new.is_spent ≡ old.is_spent
+  pub lines : List Line
+  pub appended : after ≡ before ++ lines
+  pub births : (store : Store) → StandsFor old store → (later : Store)
+      × OfParts old.parts (λ parts. Birth parts.setup store request lines later) × StandsFor new later

@@ -1,0 +1,11 @@
+//! Objects as they lie in the words of a space: where the parts of each are, and its fields read and written.
+#![tactic(auto)]
+
+mod birth;
+mod fields;
+
+pub use birth::init;
+pub use fields::{ObjView, int_at, ref_at, set_int, set_ref, view};
+
+#[cfg(test)]
+mod tests;

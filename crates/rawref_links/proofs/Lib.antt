@@ -1,0 +1,11 @@
+pub mod Tables
+pub mod Keyed
+pub mod Tabled
+pub mod Numbers
+pub mod CutSteps
+pub mod TieLaws
+pub mod Picked
+pub mod LinkLaws
+pub mod MoveTies
+pub mod CutTies
+pub mod Refusals
