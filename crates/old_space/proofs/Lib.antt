@@ -3,6 +3,7 @@ pub mod PartLaws
 pub mod JoinLaws
 pub mod CallLaws
 pub mod TakeLaws
+pub mod ElsewhereLaws
 pub mod GiveLaws
 pub mod WaitLaws
 pub mod BeginLaws

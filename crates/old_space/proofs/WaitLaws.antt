@@ -48,7 +48,7 @@ pub in-contains : (x : ℕ) (xs : List ℕ) → Contains xs x → IsIn x xs
 in-contains x [] h = (let k = h.1 in absurd (omega (arith, k)))
 in-contains x (y ∷ ys) h = elim (contains-cases x y ys h) [ inl e ↦ inl e | inr r ↦ inr (in-contains x ys r) ]
 
-each-contains : (P : ℕ → Type 0) (x : ℕ) (xs : List ℕ) → EachPlace P xs → Contains xs x → P x
+pub each-contains : (P : ℕ → Type 0) (x : ℕ) (xs : List ℕ) → EachPlace P xs → Contains xs x → P x
 each-contains P x [] all h = (let k = h.1 in absurd (omega (arith, k)))
 each-contains P x (y ∷ ys) all h = elim (contains-cases x y ys h) [
   | inl e ↦ subst P (sym e) all.0
@@ -57,7 +57,7 @@ each-contains P x (y ∷ ys) all h = elim (contains-cases x y ys h) [
 
 -- the large blocks that wait lie above the pages
 
-places-each : (P : ℕ → Type 0) (xs : List Extent) → Each (λ x. P x.0) xs → EachPlace P (places_of xs)
+pub places-each : (P : ℕ → Type 0) (xs : List Extent) → Each (λ x. P x.0) xs → EachPlace P (places_of xs)
 places-each P [] all = tt
 places-each P (x ∷ xs) all = (all.0, places-each P xs all.1)
 
@@ -69,7 +69,7 @@ blocks-above l m large w h =
     (Each-filter (λ x. 1099511627776 ≤ x.0) (begins_between l.wait_from l.wait_end) (larges_of m)
     (Each-map (λ x. (1099511627776 ≤ x.0) × (x.0 < 9223372036854775808)) (λ x. 1099511627776 ≤ x.0) (λ x p. p.0) (larges_of m) (larges-within m))))
 
-page-low : (size a : ℕ) → 0 < size → 4294967296 ≤ a → page_of size a ≤ a
+pub page-low : (size a : ℕ) → 0 < size → 4294967296 ≤ a → page_of size a ≤ a
 page-low size a some low =
     let k = a - 4294967296 in
     let part : k / size * size ≤ k = grind (arith) in

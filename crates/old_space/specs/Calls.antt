@@ -1,8 +1,9 @@
 -- What the calls promise beside the live blocks and the waiting units.
 use Rattle.std.specs.Prelude.{◌≡◌, ℕ, ◌*◌, ◌<◌, ◌≤◌, nat_lt, if◌then◌else◌, List, [], length, Contains}
-use Rattle.heap_space.specs.Memory.{Memory}
+use Rattle.heap_space.specs.Memory.{Memory, without_large}
 use Rattle.heap_space.specs.Extents.{Extent, Each}
-use Rattle.size_pages.specs.Calls.{page_of}
+use Rattle.size_pages.specs.Calls.{page_of, ChangesAround}
+use Rattle.size_pages.specs.PageWords.{word_in}
 use Rattle.store_model.specs.declared.settings.Settings.{Settings}
 use Rattle.large_objects.specs.Blocks.{larges_of, without_place}
 use Rattle.old_space.specs.HasBlocks.{HasBlocks, IsLive}
@@ -34,6 +35,16 @@ still_waiting a waiting = if nat_lt a 1099511627776 then waiting else without_pl
 -- the unit of the block at a: its page, or the large block itself
 abbrev pub unit_of : Old → ℕ → ℕ
 unit_of old a = if nat_lt a 1099511627776 then page_of old.pages.page a else a
+
+-- the unit of the block at a does not wait
+abbrev pub IsElsewhere : Old → List ℕ → ℕ → Type 0
+IsElsewhere old waiting a = ¬ (Contains waiting (unit_of old a))
+
+-- What giving back the block at a changes. Of a page: the block's words 0 and 1, the page's header, and words 4 and 5 of
+-- at most three other pages. A large block goes, and nothing else changes.
+pub record GivesBack (old : Old) (m after : Memory) (a : ℕ) : Type 0 where
+  pub page : a < 1099511627776 → ChangesAround (word_in m) (word_in after) (page_of old.pages.page a) a
+  pub large : 1099511627776 ≤ a → after ≡ without_large m a
 
 -- a live block begins at the place
 pub record BeginsLive (old : Old) (m : Memory) (a : ℕ) : Type 0 where

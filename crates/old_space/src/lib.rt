@@ -37,7 +37,7 @@ pub struct Old {
 impl Old {
     ghost use Rattle.old_space.specs.HasBlocks.{HasBlocks, Stands, IsLive, greatest_small};
     ghost use Rattle.old_space.specs.Headers.{HasHeaders, StandsWithHeaders};
-    ghost use Rattle.old_space.specs.Calls.{HasPageSettings, IsEmptyFor, ComesFrom, still_waiting, unit_of, BeginsLive, NoneWaits, BeginsSweep};
+    ghost use Rattle.old_space.specs.Calls.{HasPageSettings, IsEmptyFor, ComesFrom, still_waiting, unit_of, BeginsLive, NoneWaits, BeginsSweep, IsElsewhere, GivesBack};
 
     /// No block. The error is want of memory alone.
     pub fn new(alloc: Global, settings: &Settings) -> Result<Old, AllocError>
@@ -63,6 +63,7 @@ impl Old {
         ensures stands { Stands self.new space.new }
         ensures taken { (live : List Extent) (waiting : List ℕ) → HasBlocks self.old space.old live waiting → IfOk result (λ a. HasBlocks self.new space.new ((a, n) ∷ live) waiting) }
         ensures from { IfOk result (ComesFrom (greatest_small self.old) n) }
+        ensures elsewhere { (live : List Extent) (waiting : List ℕ) → HasBlocks self.old space.old live waiting → IfOk result (IsElsewhere self.new waiting) }
         ensures cleared { IfOk result (λ a. word_at space.new.blocks a ≡ 0) }
         ensures kept { (live : List Extent) (waiting : List ℕ) → HasBlocks self.old space.old live waiting → KeepsWords space.old space.new live }
         ensures outside { KeepsOutside 4294967296 9223372036854775808 space.old space.new }
@@ -82,6 +83,7 @@ impl Old {
         ensures stands { Stands self.new space.new }
         ensures given { (live : List Extent) (waiting : List ℕ) → HasBlocks self.old space.old ((a, n) ∷ live) waiting → HasBlocks self.new space.new live (still_waiting a waiting) }
         ensures kept { (live : List Extent) (waiting : List ℕ) → HasBlocks self.old space.old ((a, n) ∷ live) waiting → KeepsWords space.old space.new live }
+        ensures changes { GivesBack self.old space.old space.new a }
         ensures outside { KeepsOutside 4294967296 9223372036854775808 space.old space.new }
         ensures small { greatest_small self.new ≡ greatest_small self.old }
     {

@@ -1,4 +1,6 @@
 use Rattle.old_space.proofs.Narrow.{outside-pages, outside-larges}
+use Rattle.old_space.specs.declared.Old.{Old}
+use Rattle.old_space.proofs.ElsewhereLaws.{small-elsewhere, large-elsewhere}
 use Rattle.old_space.proofs.CallLaws.{kept-small, kept-large}
 use Rattle.old_space.proofs.TakeLaws.{small-ok, small-err, small-stands, small-from, large-ok, large-err, large-stands, large-from}
 use Rattle.old_space.proofs.Old.take.Goals as goal
@@ -48,3 +50,13 @@ returns-else-n-self-clause-kept c = λ live waiting h.
 
 pub returns-else-n-self-clause-outside : goal.returns-else-n-self-clause-outside
 returns-else-n-self-clause-outside c = outside-larges _ _ c.take-else-n-self.ensures.outside
+
+pub returns-then-n-self-clause-elsewhere : goal.returns-then-n-self-clause-elsewhere
+returns-then-n-self-clause-elsewhere c = λ live waiting h.
+    let new : Old = record { pages = c.take.new.self; large = c.args.self.now.large; small = c.args.self.now.small } in
+    small-elsewhere c.args.self.now new _ c.take.new.space _ c.take.result live waiting c.take.ensures.sizes.page c.take.ensures.taken c.take.ensures.elsewhere h
+
+pub returns-else-n-self-clause-elsewhere : goal.returns-else-n-self-clause-elsewhere
+returns-else-n-self-clause-elsewhere c = λ live waiting h.
+    let new : Old = record { pages = c.args.self.now.pages; large = c.take-else-n-self.new.self; small = c.args.self.now.small } in
+    large-elsewhere c.args.self.now new _ c.take-else-n-self.new.space _ c.take-else-n-self.result live waiting c.take-else-n-self.ensures.taken h
