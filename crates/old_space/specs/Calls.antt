@@ -43,7 +43,7 @@ IsElsewhere old waiting a = ¬ (Contains waiting (unit_of old a))
 -- What giving back the block at a changes. Of a page: the block's words 0 and 1, the page's header, and words 4 and 5 of
 -- at most three other pages. A large block goes, and nothing else changes.
 pub record GivesBack (old : Old) (m after : Memory) (a : ℕ) : Type 0 where
-  pub page : a < 1099511627776 → ChangesAround (word_in m) (word_in after) (page_of old.pages.page a) a
+  pub page : a < 1099511627776 → ChangesAround (word_in m) (word_in after) old.pages.page old.pages.count (page_of old.pages.page a) a
   pub large : 1099511627776 ≤ a → after ≡ without_large m a
 
 -- a live block begins at the place
