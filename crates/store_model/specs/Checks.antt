@@ -7,7 +7,6 @@ use Rattle.store_model.specs.declared.item.Reason.{Reason}
 use Rattle.store_model.specs.declared.item.Reason.TheVariants.{NotBuilt, Late, SetTwice, SetRange, TypeTwice, TooManyTypes, NoRoot, NilRoot, NoType, WrongShape, NoItem}
 use Rattle.store_model.specs.declared.kind.Kind.{Kind}
 use Rattle.store_model.specs.declared.settings.Settings.{Settings}
-use Rattle.store_model.specs.Setup.{young_words}
 use Rattle.store_model.specs.Shapes.{has_shape, ints_in, refs_in, has_ints, has_refs}
 
 -- checks in their order, each with the reason that it gives where it holds
@@ -73,13 +72,10 @@ abbrev pub type_words : Option TypeInfo → ℕ → ℕ
 type_words None items = 0
 type_words (Some info) items = words_in info.shape items
 
--- Of a birth of so many words, where so many unsettled and so many kept words are there: births outside the nursery and
--- collections are not built yet.
-abbrev pub room_checks : Settings → ℕ → ℕ → ℕ → Checks
-room_checks settings words unsettled kept =
-    (nat_lt (young_words settings) words, NotBuilt)
-    ∷ (nat_lt settings.nursery (unsettled + words), NotBuilt)
-    ∷ (nat_lt settings.limit (kept + words), NotBuilt) ∷ []
+-- Of a birth of so many words, where so many unsettled, fresh and kept words are there: collections are not built yet.
+abbrev pub room_checks : Settings → ℕ → ℕ → ℕ → ℕ → Checks
+room_checks settings words unsettled fresh kept =
+    (nat_lt settings.nursery (unsettled + fresh + words), NotBuilt) ∷ (nat_lt settings.limit (kept + words), NotBuilt) ∷ []
 
 -- of the use of a whole number: what is in the slot, and the item
 abbrev pub int_checks : Option Kind → ℕ → Checks

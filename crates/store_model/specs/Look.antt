@@ -18,6 +18,7 @@ pub record Look : Type 0 where
   pub has_p_link : ℕ → Bool  -- whether a slot holds an object with a P link
   pub structure : ℕ → StructState  -- the state of the structure of a number
   pub unsettled : ℕ  -- the words of the kept objects in the nursery
+  pub fresh : ℕ  -- the words that were born settled since the last minor collection
   pub kept : ℕ  -- the words of all kept objects
 
 -- whether the birth that a slot holds is in the list
@@ -34,5 +35,6 @@ look store = record {
   has_p_link = λ root. has_p_link store.structs (held store.slots root);
   structure = λ number. state_of (value_at store.structs number);
   unsettled = unsettled_words store.kept store.settled;
+  fresh = store.fresh;
   kept = kept_words store.kept;
 }

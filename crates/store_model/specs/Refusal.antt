@@ -60,6 +60,7 @@ is_unbuilt (Load to root item) = false
 is_unbuilt (MoveRoot to from) = false
 is_unbuilt (DropRoot root) = false
 is_unbuilt (Same a b) = false
+is_unbuilt Used = false
 is_unbuilt command = true
 
 -- the checks on what the slots and numbers of a command lead to
@@ -105,9 +106,9 @@ further_checks setup seen Used = []
 -- the checks on words, which are the last
 abbrev pub words_checks : Setup → Look → Command → Checks
 words_checks setup seen (NewFixed root type_id) =
-    room_checks setup.settings (type_words (type_at setup type_id) 0) seen.unsettled seen.kept
+    room_checks setup.settings (type_words (type_at setup type_id) 0) seen.unsettled seen.fresh seen.kept
 words_checks setup seen (NewArray root type_id len) =
-    room_checks setup.settings (type_words (type_at setup type_id) len) seen.unsettled seen.kept
+    room_checks setup.settings (type_words (type_at setup type_id) len) seen.unsettled seen.fresh seen.kept
 words_checks setup seen command = []
 
 -- the checks of a command none of whose numbers is out of range, in order

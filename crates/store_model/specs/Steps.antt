@@ -1,11 +1,11 @@
 -- What each command may print and leave.
 use Rattle.std.specs.Prelude.{◌≡◌, ℕ, List, [], ◌∷◌, Option, None, slice_index}
 use Rattle.store_model.specs.declared.command.Command.{Command}
-use Rattle.store_model.specs.declared.command.Command.TheVariants.{NewFixed, NewArray, Put, Get, Link, Load, MoveRoot, DropRoot, Same}
+use Rattle.store_model.specs.declared.command.Command.TheVariants.{NewFixed, NewArray, Put, Get, Link, Load, MoveRoot, DropRoot, Same, Used}
 use Rattle.store_model.specs.declared.line.Line.{Line}
-use Rattle.store_model.specs.declared.line.Line.TheVariants.{Got, Loaded, SameAs}
+use Rattle.store_model.specs.declared.line.Line.TheVariants.{Got, Loaded, SameAs, UsedIs}
 use Rattle.store_model.specs.Setup.{Setup}
-use Rattle.store_model.specs.Store.{Store}
+use Rattle.store_model.specs.Store.{Store, kept_words, husk_words}
 use Rattle.store_model.specs.Slots.{held, object_in, put_in_slot, is_same, changed_at, with_int, with_ref, ints_of, refs_of, ref_in}
 use Rattle.store_model.specs.Birth.{Request, Birth}
 
@@ -45,4 +45,5 @@ Does setup old (Load to root item) lines new =
 Does setup old (MoveRoot to from) lines new = (lines ≡ []) × (new ≡ put_in_slot old to (held old.slots from))
 Does setup old (DropRoot root) lines new = (lines ≡ []) × (new ≡ put_in_slot old root None)
 Does setup old (Same a b) lines new = (lines ≡ SameAs (is_same (held old.slots a) (held old.slots b)) ∷ []) × (new ≡ old)
+Does setup old Used lines new = (lines ≡ UsedIs (kept_words old.kept) (husk_words old.husks) ∷ []) × (new ≡ old)
 Does setup old unbuilt lines new = ⊥

@@ -86,3 +86,11 @@ counted_words store = kept_words store.kept + husk_words store.husks
 -- the words of the kept objects in the nursery
 abbrev pub unsettled_words : List Object → List ℕ → ℕ
 unsettled_words kept settled = kept_words (filter (λ object. not (is_settled settled object.birth)) kept)
+
+-- the words of the kept objects outside the nursery
+abbrev pub settled_words : List Object → List ℕ → ℕ
+settled_words kept settled = kept_words (filter (λ object. is_settled settled object.birth) kept)
+
+-- the words outside the nursery: those of settled objects, and of husks
+abbrev pub old_words : Store → ℕ
+old_words store = settled_words store.kept store.settled + husk_words store.husks
