@@ -87,3 +87,8 @@ large-from old l m now n (Ok a) s many taken =
     let above = larges-above l now ((a, n) ∷ s.blocks.large) s.blocks.waiting_blocks (taken s.blocks.large s.blocks.waiting_blocks s.blocks.in_larges) in
     record { page = λ e. absurd (omega (arith, e)); large = λ e. above.0 }
 large-from old l m now n (Err e) s many taken = tt
+
+pub large-arenas : (m now : Memory) (n : ℕ) (r : Result ℕ AllocError) → IfOk r (λ a. (a ≡ m.next_large) × (now ≡ with_large m n))
+    → OnErr r (now ≡ record m { next_large = now.next_large }) → now.arena_words ≡ m.arena_words
+large-arenas m now n (Ok a) place same = ap (λ (k : Memory). k.arena_words) place.1
+large-arenas m now n (Err e) place same = ap (λ (k : Memory). k.arena_words) same

@@ -67,6 +67,7 @@ impl Old {
         ensures cleared { IfOk result (λ a. word_at space.new.blocks a ≡ 0) }
         ensures kept { (live : List Extent) (waiting : List ℕ) → HasBlocks self.old space.old live waiting → KeepsWords space.old space.new live }
         ensures outside { KeepsOutside 4294967296 9223372036854775808 space.old space.new }
+        ensures arena_words { space.new.arena_words ≡ space.old.arena_words }
         ensures small { greatest_small self.new ≡ greatest_small self.old }
         ensures err { (live : List Extent) (waiting : List ℕ) → HasBlocks self.old space.old live waiting → OnErr result (HasBlocks self.new space.new live waiting) }
     {

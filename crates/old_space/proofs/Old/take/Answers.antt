@@ -2,7 +2,7 @@ use Rattle.old_space.proofs.Narrow.{outside-pages, outside-larges}
 use Rattle.old_space.specs.declared.Old.{Old}
 use Rattle.old_space.proofs.ElsewhereLaws.{small-elsewhere, large-elsewhere}
 use Rattle.old_space.proofs.CallLaws.{kept-small, kept-large}
-use Rattle.old_space.proofs.TakeLaws.{small-ok, small-err, small-stands, small-from, large-ok, large-err, large-stands, large-from}
+use Rattle.old_space.proofs.TakeLaws.{small-ok, small-err, small-stands, small-from, large-ok, large-err, large-stands, large-from, large-arenas}
 use Rattle.old_space.proofs.Old.take.Goals as goal
 
 pub returns-then-n-self-clause-taken : goal.returns-then-n-self-clause-taken
@@ -60,3 +60,7 @@ pub returns-else-n-self-clause-elsewhere : goal.returns-else-n-self-clause-elsew
 returns-else-n-self-clause-elsewhere c = λ live waiting h.
     let new : Old = record { pages = c.args.self.now.pages; large = c.take-else-n-self.new.self; small = c.args.self.now.small } in
     large-elsewhere c.args.self.now new _ c.take-else-n-self.new.space _ c.take-else-n-self.result live waiting c.take-else-n-self.ensures.taken h
+
+pub returns-else-n-self-clause-arena_words : goal.returns-else-n-self-clause-arena_words
+returns-else-n-self-clause-arena_words c =
+    large-arenas _ _ _ c.take-else-n-self.result c.take-else-n-self.ensures.place c.take-else-n-self.ensures.same
