@@ -1,10 +1,11 @@
 -- What the calls of a heap ask, and what they do to each store that the heap stands for.
 use Rattle.std.specs.Prelude.{◌≡◌, ℕ, Bool, true, false, List, ◌++◌, Option, Some, None, option_map, Result, Ok, Err, ◌⊎◌}
 use Rattle.type_table.specs.declared.info.TypeInfo.{TypeInfo}
-use Rattle.type_table.specs.Table.{value_at}
+use Rattle.type_table.specs.Table.{Table, value_at}
 use Rattle.store_model.specs.declared.command.Command.{Command}
 use Rattle.store_model.specs.declared.command.Command.TheVariants.{NewFixed, NewArray}
 use Rattle.store_model.specs.declared.line.Line.{Line}
+use Rattle.store_model.specs.declared.settings.Settings.{Settings}
 use Rattle.store_model.specs.declared.structure.StructState.TheVariants.{Absent}
 use Rattle.store_model.specs.Setup.{Setup}
 use Rattle.store_model.specs.Store.{Store}
@@ -14,7 +15,7 @@ use Rattle.store_model.specs.Refusal.{command_checks}
 use Rattle.store_model.specs.Birth.{Request, Birth}
 use Rattle.heap_core.specs.declared.fault.HeapFault.{HeapFault}
 use Rattle.heap_core.specs.declared.fault.HeapFault.TheVariants.{Spent, OutOfMemory}
-use Rattle.heap_core.specs.Parts.{HeapParts, HeapSeen}
+use Rattle.heap_core.specs.Parts.{HeapParts, HeapSeen, heap_of, AreFresh}
 use Rattle.heap_core.specs.Told.{told}
 use Rattle.heap_core.specs.StandsFor.{PartsStandFor, StandsFor}
 
@@ -71,6 +72,7 @@ nothing_told = record {
   has_p_link = λ root. false;
   structure = λ number. Absent;
   unsettled = 0;
+  fresh = 0;
   kept = 0;
 }
 
@@ -86,6 +88,12 @@ told_by heap = told_if heap.parts
 abbrev pub done_unless : Bool → Result (Unit {0}) HeapFault
 done_unless true = Err Spent
 done_unless false = Ok tt
+
+-- a heap that was just started with these settings and types
+pub record IsFresh (heap : HeapSeen) (settings : Settings) (types : Table TypeInfo) : Type 0 where
+  pub parts : HeapParts
+  pub is : heap ≡ heap_of parts
+  pub fresh : AreFresh parts settings types
 
 -- settings and types stay, and each store that the heap stood for becomes this one
 pub record Changes (old new : HeapSeen) (change : Store → Store) : Type 0 where

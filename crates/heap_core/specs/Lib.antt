@@ -4,3 +4,4 @@ pub mod StandsFor
 pub mod Effects
 pub mod Commands
 pub mod Seen
+pub mod Code

@@ -1,5 +1,5 @@
 -- What a heap tells of its objects: it is read from the words.
-use Rattle.std.specs.Prelude.{ℕ, ◌==◌, false, if◌then◌else◌, Option, Some, None, slice_index_or}
+use Rattle.std.specs.Prelude.{ℕ, ◌+◌, ◌==◌, false, if◌then◌else◌, Option, Some, None, slice_index_or}
 use Rattle.type_table.specs.declared.info.TypeInfo.{TypeInfo}
 use Rattle.type_table.specs.Table.{Table}
 use Rattle.heap_space.specs.Places.{word_at}
@@ -38,5 +38,6 @@ told heap = record {
   has_p_link = λ root. false;
   structure = λ number. Absent;
   unsettled = heap.unsettled;
-  kept = heap.unsettled;
+  fresh = heap.fresh;
+  kept = heap.unsettled + heap.old_words;
 }

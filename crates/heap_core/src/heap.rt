@@ -1,14 +1,14 @@
 //! A heap: closed, started with its parts, or spent.
 ghost use Rattle.std.specs.Prelude.{◌≡◌, ◌≤◌, IsTrue, IsSome, IsSomeAnd, is_some, None, Ok, Err, OnOk, OnErr, IfErr};
-ghost use Rattle.store_model.specs.declared.command.Command.TheVariants.{Put, Get, Link, Load, MoveRoot, DropRoot, Same};
+ghost use Rattle.store_model.specs.declared.command.Command.TheVariants.{Put, Get, Link, Load, MoveRoot, DropRoot, Same, Used};
 ghost use Rattle.store_model.specs.Slots.{held, put_in_slot, is_same};
-ghost use Rattle.store_model.specs.Store.{Store, empty_store};
+ghost use Rattle.store_model.specs.Store.{Store, empty_store, kept_words, husk_words};
 ghost use Rattle.store_model.specs.Steps.{int_at, ref_at, put_int, put_ref, array_request};
 ghost use Rattle.store_model.specs.Checks.{AreInRange};
 ghost use Rattle.heap_core.specs.declared.fault.HeapFault.TheVariants.{Spent, OutOfMemory};
-ghost use Rattle.heap_core.specs.Parts.{closed_heap, heap_of, started_parts};
+ghost use Rattle.heap_core.specs.Parts.{closed_heap};
 ghost use Rattle.heap_core.specs.StandsFor.{StandsFor};
-ghost use Rattle.heap_core.specs.Commands.{OfParts, IsStanding, type_found, told_by, CanDo, CanBear, done_unless, fault_of, Changes, Bears};
+ghost use Rattle.heap_core.specs.Commands.{OfParts, IsStanding, type_found, told_by, CanDo, CanBear, IsFresh, done_unless, fault_of, Changes, Bears};
 
 use crate::fault::HeapFault;
 use crate::parts::Parts;
@@ -33,10 +33,14 @@ pub struct Heap {
 }
 
 impl Model for Heap {
+    ghost use Rattle.std.specs.Coded.{codes};
+    ghost use Rattle.heap_core.specs.Code.{old_code};
     ghost use Rattle.heap_core.specs.Parts.{HeapSeen};
     ghost use Rattle.heap_core.specs.Seen.{seen};
 
     ghost Value = { HeapSeen };
+
+    ghost coded = { Prim.hlevel (codes, old_code) };
 
     ghost view = { λ h. seen h.state };
 }
@@ -61,7 +65,7 @@ impl Heap {
     ) -> Result<(), HeapFault>
         requires closed { self.old ≡ closed_heap }
         requires settings { AreInRange settings.now }
-        ensures started { OnOk result (self.new ≡ heap_of (started_parts settings.now types)) }
+        ensures started { OnOk result (IsFresh self.new settings.now types) }
         ensures empty { OnOk result (StandsFor self.new (empty_store settings.now)) }
         ensures err { OnErr result (self.new ≡ self.old) }
         ensures cause { IfErr result (λ fault. fault ≡ OutOfMemory) }
@@ -98,7 +102,7 @@ impl Heap {
         ensures limit { OfParts self.now.parts (λ parts. result ≤ parts.setup.settings.limit) }
     {
         match &self.state {
-            State::Started(parts) => parts.unsettled(),
+            State::Started(parts) => parts.kept(),
             State::Closed | State::Spent => 0,
         }
     }
@@ -111,6 +115,18 @@ impl Heap {
     {
         match &self.state {
             State::Started(parts) => parts.unsettled(),
+            State::Closed | State::Spent => 0,
+        }
+    }
+
+    /// The words of the objects that were born outside the nursery.
+    pub fn fresh_words(&self) -> u64
+        requires { IsStanding self.now }
+        ensures value { result ≡ (told_by self.now).fresh }
+        ensures limit { OfParts self.now.parts (λ parts. result ≤ parts.setup.settings.limit) }
+    {
+        match &self.state {
+            State::Started(parts) => parts.fresh(),
             State::Closed | State::Spent => 0,
         }
     }
@@ -144,7 +160,8 @@ impl Heap {
     }
 
     /// An object of a type is born for a slot, its numbers 0 and its references nil, and its line is appended. `len` is the
-    /// number of an array's items, and 0 for a fixed type. An error changes nothing.
+    /// number of an array's items, and 0 for a fixed type. An object of more words than the setting `young` is old from
+    /// birth (a rule of this project). After an error the heap stands for the stores that it stood for, and no line is there.
     pub fn new_object(
         &mut self,
         root: u32,
@@ -154,9 +171,10 @@ impl Heap {
     ) -> Result<(), HeapFault>
         requires { CanBear self.old root type_id len }
         ensures born { OnOk result (Bears self.old self.new (array_request root type_id len) out.old.items out.new.items) }
-        ensures err { OnErr result ((self.new ≡ self.old) × (out.new.items ≡ out.old.items)) }
+        ensures err { OnErr result (Changes self.old self.new (λ store. store)) }
+        ensures err_out { OnErr result (out.new.items ≡ out.old.items) }
         ensures cause { IfErr result (λ fault. fault ≡ fault_of self.old.is_spent) }
-        ensures spent { IsTrue self.old.is_spent → result ≡ Err Spent }
+        ensures spent { IsTrue self.old.is_spent → (result ≡ Err Spent) × (self.new ≡ self.old) }
     {
         match &mut self.state {
             State::Started(parts) => Ok(parts.new_object(root, type_id, len, out)?),
@@ -268,6 +286,17 @@ impl Heap {
     {
         match &self.state {
             State::Started(parts) => Ok(parts.place(a) == parts.place(b)),
+            State::Closed | State::Spent => Err(HeapFault::Spent),
+        }
+    }
+    /// The words of all objects, and the words of husks: what was condemned and is not freed yet, which collections make.
+    pub fn used(&self) -> Result<(u64, u64), HeapFault>
+        requires { CanDo self.now Used }
+        ensures value { (store : Store) → StandsFor self.now store → result ≡ Ok (kept_words store.kept, husk_words store.husks) }
+        ensures spent { IsTrue self.now.is_spent → result ≡ Err Spent }
+    {
+        match &self.state {
+            State::Started(parts) => Ok((parts.kept(), 0)),
             State::Closed | State::Spent => Err(HeapFault::Spent),
         }
     }

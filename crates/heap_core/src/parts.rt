@@ -1,16 +1,18 @@
 //! The parts of a heap that was started: objects in words, and root slots that lead to them.
-ghost use Rattle.std.specs.Prelude.{◌≡◌, ◌≢◌, ℕ, ◌+◌, ◌<◌, length, IfOk, OnOk, OnErr};
+ghost use Rattle.std.specs.Prelude.{◌≡◌, ◌≢◌, ℕ, ◌+◌, ◌<◌, ◌≤◌, length, IfOk, OnOk, OnErr};
 ghost use Rattle.type_table.specs.Table.{value_at};
 ghost use Rattle.heap_space.specs.Places.{with_word};
+ghost use Rattle.old_space.specs.HasBlocks.{Stands};
 ghost use Rattle.object_view.specs.Views.{HasObject, HasView, view_at};
 ghost use Rattle.store_model.specs.Checks.{AreInRange};
-ghost use Rattle.heap_core.specs.Parts.{started_parts};
+ghost use Rattle.heap_core.specs.Parts.{AreFresh};
 ghost use Rattle.heap_core.specs.Told.{word_in, place_in, kind_at};
-ghost use Rattle.heap_core.specs.Effects.{birth_read, HasObjectIn, HasRoom, layout_in, int_place, ref_place, with_word_at, with_slot, born, BearsOf, FitsOf};
+ghost use Rattle.heap_core.specs.Effects.{birth_read, HasObjectIn, HasRoom, HasYoungRoom, HasOldRoom, layout_in, int_place, ref_place, with_word_at, with_slot, with_newborn, born_young, BearsOld, TakesBlock, TakesNone, BearsOf, FitsOf};
 ghost use Rattle.heap_core.specs.Commands.{AreStanding};
 
 use heap_space::Space;
 use object_view::{ObjView, init, int_at, ref_at, set_int, set_ref, view};
+use old_space::Old;
 use std::alloc::{AllocError, Global};
 use std::marker::Model;
 use store_model::{Kind, Line, Settings, TypeInfo};
@@ -27,26 +29,39 @@ pub(crate) struct Parts {
     space: Space,
     // The place of the first word of the nursery that was never handed out.
     free: u64,
+    // The blocks outside the nursery.
+    old_blocks: Old,
     // The place of the object in each root slot, 0 where it is empty.
     slots: Vec<u64>,
     // The next birth.
     next: u64,
     // The words of the objects in the nursery.
     unsettled: u64,
+    // The words outside the nursery.
+    old_words: u64,
+    // The words that were born outside the nursery.
+    fresh: u64,
 }
 
 impl Model for Parts {
+    ghost use Rattle.std.specs.Coded.{codes};
+    ghost use Rattle.heap_core.specs.Code.{old_code};
     ghost use Rattle.heap_core.specs.Parts.{HeapParts};
 
     ghost Value = { HeapParts };
+
+    ghost coded = { Prim.hlevel (codes, old_code) };
 
     ghost view = { λ p. record {
       setup = record { settings = p.settings; types = p.types };
       memory = p.space;
       free = p.free;
+      old_blocks = p.old_blocks;
       slots = p.slots.items;
       next = p.next;
       unsettled = p.unsettled;
+      old_words = p.old_words;
+      fresh = p.fresh;
     } };
 }
 
@@ -54,16 +69,19 @@ impl Parts {
     /// No objects, and empty slots.
     pub fn new(alloc: Global, settings: &Settings, types: TypeTable) -> Result<Self, AllocError>
         requires { AreInRange settings.now }
-        ensures { IfOk result (λ parts. parts ≡ started_parts settings.now types) }
+        ensures { IfOk result (λ parts. AreFresh parts settings.now types) }
     {
         Ok(Parts {
             settings: *settings,
             types,
             space: Space::new(alloc, settings.nursery, settings.arena * settings.page)?,
             free: 1,
+            old_blocks: Old::new(alloc, settings)?,
             slots: vec![in alloc; 0; settings.roots as usize]?,
             next: 1,
             unsettled: 0,
+            old_words: 0,
+            fresh: 0,
         })
     }
 
@@ -79,6 +97,21 @@ impl Parts {
         ensures { result ≡ self.now.unsettled }
     {
         self.unsettled
+    }
+
+    /// The words that were born outside the nursery.
+    pub fn fresh(&self) -> u64
+        ensures { result ≡ self.now.fresh }
+    {
+        self.fresh
+    }
+
+    /// The words of all objects.
+    pub fn kept(&self) -> u64
+        requires { AreStanding self.now }
+        ensures { result ≡ self.now.unsettled + self.now.old_words }
+    {
+        self.unsettled + self.old_words
     }
 
     /// The place of the object in a slot, 0 where it is empty or not there.
@@ -172,21 +205,61 @@ impl Parts {
         ref_at(&self.space, v, place, item)
     }
 
+    /// A new object at a place where there is room for it, and in a slot. It takes no memory.
+    fn bear_at(&mut self, place: u64, root: u32, type_id: u16, info: TypeInfo, items: u64)
+        requires { HasRoom self.old place root info items }
+        ensures { self.new ≡ with_newborn self.old place root type_id info items }
+    {
+        init(&mut self.space, place, type_id, self.next, info, items);
+        self.slots[root as usize] = place;
+        self.next += 1;
+    }
+
     /// A new object behind all others in the nursery, and in a slot. It takes no memory.
-    pub fn bear(&mut self, root: u32, type_id: u16, info: TypeInfo, items: u64)
-        requires { HasRoom self.old root info items }
-        ensures { self.new ≡ born self.old root type_id info items }
+    fn bear_young(&mut self, root: u32, type_id: u16, info: TypeInfo, items: u64)
+        requires { HasYoungRoom self.old root info items }
+        ensures { self.new ≡ born_young self.old root type_id info items }
     {
         let n = words(info, items);
-        init(&mut self.space, self.free, type_id, self.next, info, items);
-        self.slots[root as usize] = self.free;
+        self.bear_at(self.free, root, type_id, info, items);
         self.free += n;
-        self.next += 1;
         self.unsettled += n;
     }
 
-    /// A new object of a type, with so many items if it is an array, for a slot, and its line. The error is want of
-    /// memory for the line, also where the next birth would reach 2^63, and it changes nothing.
+    /// A block of n words outside the nursery. The error is want of memory, and no object changes then.
+    fn take_block(&mut self, n: u64) -> Result<u64, AllocError>
+        requires stands { Stands self.old.old_blocks self.old.memory }
+        requires n { (2 ≤ n) × (n ≤ 16777219) }
+        ensures taken { IfOk result (λ place. TakesBlock self.old self.new n place) }
+        ensures err { OnErr result (TakesNone self.old self.new) }
+    {
+        self.old_blocks.take(&mut self.space, n)
+    }
+
+    /// A new object in a block of its own words outside the nursery, and in a slot. The error is want of memory, and no
+    /// object changes then.
+    fn bear_old(
+        &mut self,
+        root: u32,
+        type_id: u16,
+        info: TypeInfo,
+        items: u64,
+    ) -> Result<(), AllocError>
+        requires { HasOldRoom self.old root info items }
+        ensures born { OnOk result (BearsOld self.old self.new root type_id info items) }
+        ensures err { OnErr result (TakesNone self.old self.new) }
+    {
+        let n = words(info, items);
+        let place = self.take_block(n)?;
+        self.bear_at(place, root, type_id, info, items);
+        self.old_words += n;
+        self.fresh += n;
+        Ok(())
+    }
+
+    /// A new object of a type, with so many items if it is an array, for a slot, and its line. An object of more words than
+    /// an object of the nursery may have is born outside it. The error is want of memory, also where the next birth would
+    /// reach 2^63; no object changes then, and no line is appended.
     pub fn new_object(
         &mut self,
         root: u32,
@@ -197,7 +270,8 @@ impl Parts {
         requires standing { AreStanding self.old }
         requires fits { FitsOf (value_at self.old.setup.types type_id) self.old root len }
         ensures ok { OnOk result (BearsOf (value_at self.old.setup.types type_id) self.old self.new root type_id len out.old.items out.new.items) }
-        ensures err { OnErr result ((self.new ≡ self.old) × (out.new.items ≡ out.old.items)) }
+        ensures err { OnErr result (TakesNone self.old self.new) }
+        ensures err_out { OnErr result (out.new.items ≡ out.old.items) }
     {
         if self.next >= LAST_BIRTH {
             return Err(AllocError);
@@ -205,11 +279,19 @@ impl Parts {
         let Some(info) = self.types.get(type_id) else {
             return Err(AllocError);
         };
+        let old = words(info, len) > self.settings.young_words();
         out.push(Line::Born {
             birth: self.next,
-            old: false,
+            old,
         })?;
-        self.bear(root, type_id, info, len);
+        if !old {
+            self.bear_young(root, type_id, info, len);
+            return Ok(());
+        }
+        if self.bear_old(root, type_id, info, len).is_err() {
+            out.pop();
+            return Err(AllocError);
+        }
         Ok(())
     }
 }
