@@ -1,3 +1,4 @@
+pub mod PlaceLaws
 pub mod Births
 pub mod SoundLaws
 pub mod ToldLaws

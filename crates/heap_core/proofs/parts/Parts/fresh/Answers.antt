@@ -1,0 +1,1 @@
+use Rattle.heap_core.proofs.PlaceLaws.{placed_words}
