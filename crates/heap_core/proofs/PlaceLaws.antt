@@ -69,15 +69,15 @@ filter-read test passes read (p ∷ ps) same =
     ]
 
 -- a name of some places is that of one of them
-record IsNamed (name : ℕ → ℕ) (ps : List ℕ) (x : ℕ) : Type 0 where
-  place : ℕ
-  there : IsTrue (is_in place ps)
-  is : x ≡ name place
+pub record IsNamed (name : ℕ → ℕ) (ps : List ℕ) (x : ℕ) : Type 0 where
+  pub place : ℕ
+  pub there : IsTrue (is_in place ps)
+  pub is : x ≡ name place
 
 named-later : (name : ℕ → ℕ) (p x : ℕ) (ps : List ℕ) → IsNamed name ps x → IsNamed name (p ∷ ps) x
 named-later name p x ps n = record { place = n.place; there = is_in-tail n.place p ps n.there; is = n.is }
 
-named-by : (name : ℕ → ℕ) (x : ℕ) (ps : List ℕ) → IsTrue (is_in x (map name ps)) → IsNamed name ps x
+pub named-by : (name : ℕ → ℕ) (x : ℕ) (ps : List ℕ) → IsTrue (is_in x (map name ps)) → IsNamed name ps x
 named-by name x [] t = absurd (is_in-nil x t)
 named-by name x (p ∷ ps) t = elim (is_in-cases x (name p) (map name ps) t) [
   | inl e ↦ record { place = p; there = is_in-head p ps; is = e }

@@ -1,1 +1,1 @@
-use Rattle.heap_core.proofs.PlaceLaws.{placed_words}
+use Rattle.heap_core.proofs.BlockLaws.{blocks-written}
