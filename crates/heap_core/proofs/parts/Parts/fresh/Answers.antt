@@ -1,1 +1,1 @@
-use Rattle.heap_core.proofs.BlockLaws.{blocks-written}
+use Rattle.heap_core.proofs.Commands.{started_stands}
