@@ -1,1 +1,0 @@
-use Rattle.heap_core.proofs.Commands.{started_stands}
