@@ -3,7 +3,7 @@ pub mod Births
 pub mod SoundLaws
 pub mod ToldLaws
 pub mod Sums
-pub mod BlockLaws
+pub mod WriteLaws
 pub mod StandLaws
 pub mod Ready
 pub mod Commands

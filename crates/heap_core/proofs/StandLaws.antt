@@ -31,7 +31,7 @@ use Rattle.heap_core.specs.Effects.{with_slot, with_word_at, int_place, ref_plac
 use Rattle.heap_core.proofs.SoundLaws.{sound_of, pointer-some}
 use Rattle.heap_core.proofs.ToldLaws.{held-named, slot-pointer}
 use Rattle.heap_core.proofs.PlaceLaws.{placed_words, young-is_in, old-is_in}
-use Rattle.heap_core.proofs.BlockLaws.{blocks-written}
+use Rattle.heap_core.proofs.WriteLaws.{blocks-written}
 
 behind-set : (x y z : ℕ) (xs : List ℕ) → (x ≡ y) ⊎ IsTrue (is_in x xs) → (x ≡ y) ⊎ IsTrue (is_in x (z ∷ xs))
 behind-set x y z xs (inl e) = inl e
