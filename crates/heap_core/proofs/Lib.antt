@@ -2,7 +2,9 @@ pub mod Births
 pub mod SoundLaws
 pub mod ToldLaws
 pub mod Sums
+pub mod PlaceLaws
 pub mod StandLaws
+pub mod HeldLaws
 pub mod Ready
 pub mod Commands
 pub mod Calls
