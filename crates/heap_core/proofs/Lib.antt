@@ -5,6 +5,8 @@ pub mod Sums
 pub mod PlaceLaws
 pub mod StandLaws
 pub mod HeldLaws
+pub mod BlockLaws
+pub mod KeepLaws
 pub mod Ready
 pub mod Commands
 pub mod Calls
