@@ -7,6 +7,7 @@ pub mod StandLaws
 pub mod HeldLaws
 pub mod BlockLaws
 pub mod KeepLaws
+pub mod YoungBirths
 pub mod Ready
 pub mod Commands
 pub mod Calls
