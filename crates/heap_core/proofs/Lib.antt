@@ -8,6 +8,7 @@ pub mod HeldLaws
 pub mod BlockLaws
 pub mod KeepLaws
 pub mod YoungBirths
+pub mod OldBirths
 pub mod Ready
 pub mod Commands
 pub mod Calls
