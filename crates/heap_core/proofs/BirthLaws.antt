@@ -1,10 +1,12 @@
 -- What a birth of the heap is to the stores that it stands for, and the room for it.
-use Rattle.std.proofs.Common.{◌≡◌, ℕ, ◌+◌, ◌^◌, ◌<◌, ◌≤◌, Bool, true, false, List, [], ◌∷◌, ◌++◌, Option, Some, None, refl, sym, ap, ◌∙◌, subst, arith}
+use Rattle.std.proofs.Common.{◌≡◌, ℕ, ◌+◌, ◌^◌, ◌<◌, ◌≤◌, Bool, true, false, IsTrue, List, [], ◌∷◌, ◌++◌, length, Option, Some, None, refl, sym, ap, ◌∙◌, subst, arith}
 use Rattle.std.specs.Prelude.{nat_lt}
 use Rattle.std.proofs.lemmas.Bool.Decides.{nat_tests}
 use Rattle.type_table.specs.declared.info.TypeInfo.{TypeInfo}
 use Rattle.type_table.specs.Table.{value_at}
 use Rattle.type_table.specs.Words.{words_in}
+use Rattle.heap_space.specs.Places.{lies_in_one}
+use Rattle.old_space.proofs.JoinLaws.{HasBlocks-first}
 use Rattle.store_model.specs.declared.line.Line.{Line}
 use Rattle.store_model.specs.declared.line.Line.TheVariants.{Born}
 use Rattle.store_model.specs.Setup.{Setup}
@@ -13,7 +15,7 @@ use Rattle.store_model.specs.Steps.{array_request}
 use Rattle.store_model.specs.Birth.{Request, with_birth, BirthOf, BirthOfType}
 use Rattle.heap_core.specs.Parts.{HeapParts, HeapSeen, heap_of}
 use Rattle.heap_core.specs.StandsFor.{PartsStandFor}
-use Rattle.heap_core.specs.Effects.{HasYoungRoom, HasOldRoom, IsFitting, FitsOf, is_large, BearsWhere, BearsOf}
+use Rattle.heap_core.specs.Effects.{HasRoom, HasYoungRoom, HasOldRoom, TakesBlock, BearsOld, IsFitting, FitsOf, is_large, BearsWhere, BearsOf, with_newborn}
 use Rattle.heap_core.specs.Commands.{AreStanding, Bears}
 use Rattle.heap_core.proofs.YoungBirths.{free_at, free-lies, young_stands}
 use Rattle.heap_core.proofs.OldBirths.{old_birth, old_setup}
@@ -108,6 +110,34 @@ old_room_of heap root info items standing fits =
       old_small = omega (arith, fits.limit, ranges.2.2.1);
       fresh_small = omega (arith, fits.limit, s.fresh_old, ranges.2.2.1);
     }
+
+-- there is room in a block that was taken for a birth
+pub taken_room : (heap middle : HeapParts) (n place root : ℕ) (info : TypeInfo) (items : ℕ) → HasOldRoom heap root info items → n ≡ words_in info.shape items
+    → TakesBlock heap middle n place → HasRoom middle place root info items
+taken_room heap middle n place root info items room size takes =
+    let only = takes.keeps.only in
+    let slots : middle.slots ≡ heap.slots = ap (λ (h : HeapParts). h.slots) only in
+    let next : middle.next ≡ heap.next = ap (λ (h : HeapParts). h.next) only in
+    let stands = room.stands in
+    let blocks = takes.taken stands.live stands.waiting stands.blocks in record {
+      slot = subst (λ (xs : List ℕ). root < length xs) (sym slots) room.slot;
+      items_few = room.items_few;
+      words = subst (λ (k : ℕ). IsTrue (lies_in_one middle.memory.blocks place k)) size
+          (HasBlocks-first middle.old_blocks middle.memory (place, n) stands.live stands.waiting blocks).lies;
+      next_small = omega (arith, next, room.next_small);
+    }
+
+-- an object is born there, and its words are counted
+pub bears_old : (heap middle new : HeapParts) (n place root type_id : ℕ) (info : TypeInfo) (items : ℕ) → TakesBlock heap middle n place
+    → n ≡ words_in info.shape items → new ≡ with_newborn middle place root type_id info items
+    → BearsOld heap (record new { old_words = new.old_words + n; fresh = new.fresh + n }) root type_id info items
+bears_old heap middle new n place root type_id info items takes size is = record {
+  middle = middle;
+  place = place;
+  takes = subst (λ (k : ℕ). TakesBlock heap middle k place) size takes;
+  bears = ap (λ (h : HeapParts). record h { old_words = h.old_words + n; fresh = h.fresh + n }) is
+      ∙ ap (λ (k : ℕ). record (with_newborn middle place root type_id info items) { old_words = middle.old_words + k; fresh = middle.fresh + k }) size;
+}
 
 -- the objects of the nursery have no more words than it
 pub unsettled_fits : (heap : HeapParts) → AreStanding heap → heap.unsettled ≤ heap.setup.settings.nursery
