@@ -1,5 +1,5 @@
 -- What a birth of the heap is to the stores that it stands for, and the room for it.
-use Rattle.std.proofs.Common.{◌≡◌, ℕ, ◌+◌, ◌^◌, ◌<◌, ◌≤◌, Bool, true, false, IsTrue, List, [], ◌∷◌, ◌++◌, length, Option, Some, None, refl, sym, ap, ◌∙◌, subst, arith}
+use Rattle.std.proofs.Common.{◌≡◌, ℕ, ◌+◌, ◌^◌, ◌<◌, ◌≤◌, Bool, true, false, IsTrue, List, [], ◌∷◌, ◌++◌, length, Option, Some, None, Result, Ok, Err, OnErr, refl, sym, ap, ◌∙◌, subst, arith}
 use Rattle.std.specs.Prelude.{nat_lt}
 use Rattle.std.proofs.lemmas.Bool.Decides.{nat_tests}
 use Rattle.type_table.specs.declared.info.TypeInfo.{TypeInfo}
@@ -15,8 +15,9 @@ use Rattle.store_model.specs.Steps.{array_request}
 use Rattle.store_model.specs.Birth.{Request, with_birth, BirthOf, BirthOfType}
 use Rattle.heap_core.specs.Parts.{HeapParts, HeapSeen, heap_of}
 use Rattle.heap_core.specs.StandsFor.{PartsStandFor}
-use Rattle.heap_core.specs.Effects.{HasRoom, HasYoungRoom, HasOldRoom, TakesBlock, BearsOld, IsFitting, FitsOf, is_large, BearsWhere, BearsOf, with_newborn}
-use Rattle.heap_core.specs.Commands.{AreStanding, Bears}
+use Rattle.heap_core.specs.Effects.{HasRoom, HasYoungRoom, HasOldRoom, TakesBlock, TakesNone, BearsOld, IsFitting, FitsOf, is_large, BearsWhere, BearsOf, with_newborn}
+use Rattle.heap_core.specs.Commands.{AreStanding, Bears, Changes}
+use Rattle.heap_core.proofs.KeepLaws.{keeps_stands}
 use Rattle.heap_core.proofs.YoungBirths.{free_at, free-lies, young_stands}
 use Rattle.heap_core.proofs.OldBirths.{old_birth, old_setup}
 
@@ -81,6 +82,20 @@ bears now new heap later (Some info) root type_id items before after known small
     } in
     subst (λ (h : HeapSeen). Bears h new request before after) (sym is)
     (subst (λ (h : HeapSeen). Bears (heap_of heap) h request before after) (sym becomes) law)
+
+-- where a birth fails, the heap stands for the same stores
+none_setup : (heap later : HeapParts) → TakesNone heap later → Changes (heap_of heap) (heap_of later) (λ store. store)
+none_setup heap later takes = record {
+  setup = ap (λ (h : HeapParts). Some h.setup) takes.keeps.only;
+  same_spent = refl;
+  stands = λ store s. keeps_stands heap later store takes s;
+}
+
+pub none_changes : {A E : Type 0} → (r : Result A E) (now : HeapSeen) (heap later : HeapParts) → now ≡ heap_of heap → TakesNone heap later
+    → OnErr r (Changes now (heap_of later) (λ store. store))
+none_changes (Ok a) now heap later is takes = tt
+none_changes (Err e) now heap later is takes =
+    subst (λ (h : HeapSeen). Changes h (heap_of later) (λ store. store)) (sym is) (none_setup heap later takes)
 
 -- there is room in the nursery for a birth that fits
 pub young_room_of : (heap : HeapParts) (root : ℕ) (info : TypeInfo) (items : ℕ) → AreStanding heap → IsFitting heap root info items
