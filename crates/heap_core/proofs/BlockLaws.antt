@@ -1,7 +1,6 @@
 -- The blocks outside the nursery, one for each object there: what leaves them, and one more.
-use Rattle.std.proofs.Common.{◌≡◌, ℕ, ◌+◌, ◌<◌, ◌≤◌, ◌⊎◌, true, Bool, IsTrue, List, [], ◌∷◌, ◌++◌, length, map, refl, sym, ap, ap₂, ◌∙◌, subst, inl, inr, arith, cond}
+use Rattle.std.proofs.Common.{◌≡◌, ℕ, ◌+◌, ◌<◌, ◌≤◌, ◌⊎◌, true, IsTrue, List, [], ◌∷◌, ◌++◌, length, map, refl, sym, ap, ◌∙◌, subst, inl, inr, arith}
 use Rattle.std.specs.List.{filter}
-use Rattle.std.specs.List.Sorted.{IsPermutation}
 use Rattle.std.proofs.lemmas.Bool.Decides.{nat_tests}
 use Rattle.std.proofs.lemmas.List.{map-append}
 use Rattle.std.proofs.lemmas.List.Sorted.{IsPermutation-sym, IsPermutation-to_front}
@@ -9,10 +8,9 @@ use Rattle.type_table.specs.declared.info.TypeInfo.{TypeInfo}
 use Rattle.type_table.specs.Table.{Table}
 use Rattle.heap_space.specs.Places.{Placed, lies_in_one, word_at, with_run}
 use Rattle.heap_space.specs.Memory.{Memory}
-use Rattle.heap_space.specs.Extents.{Extent, Each, IsOutside, extent_of, begins_between, extents_between, lies_within, IsUntouched}
+use Rattle.heap_space.specs.Extents.{Extent, Each, IsOutside, extent_of, begins_between, extents_between, lies_within}
 use Rattle.heap_space.proofs.ExtentLaws.{lies_in_one-extents, lies_in_one-between}
 use Rattle.heap_space.proofs.Blocks.{length-overwritten, word_at-before_run, word_at-after_run}
-use Rattle.object_header.specs.Words.{has_flag}
 use Rattle.object_header.specs.declared.flags.Flag.TheVariants.{Free, Shadow, Order1, Order2}
 use Rattle.object_header.proofs.HeaderLaws.{has_flag-type}
 use Rattle.object_view.proofs.InitLaws.{with_blocks}

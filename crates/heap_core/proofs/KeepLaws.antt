@@ -1,5 +1,5 @@
 -- What a heap stands for where a block outside the nursery was asked for: no object changed.
-use Rattle.std.proofs.Common.{◌≡◌, ℕ, ◌+◌, ◌<◌, ◌≤◌, true, false, IsTrue, List, [], ◌∷◌, map, Result, Ok, Err, IfOk, OnErr, refl, sym, ap, ◌∙◌, subst, inl, inr, arith}
+use Rattle.std.proofs.Common.{◌≡◌, ℕ, ◌+◌, ◌<◌, ◌≤◌, true, false, IsTrue, List, [], ◌∷◌, map, Result, Ok, Err, IfOk, OnErr, refl, sym, ◌∙◌, subst, inl, inr, arith}
 use Rattle.std.specs.declared.alloc.AllocError.{AllocError}
 use Rattle.std.specs.Prelude.{IsSome}
 use Rattle.std.proofs.lemmas.Bool.{cases_Bool, ltb-false}
@@ -10,14 +10,13 @@ use Rattle.heap_space.specs.Extents.{Extent, Each, KeepsWords, KeepsOutside}
 use Rattle.object_view.proofs.InitLaws.{lies-part}
 use Rattle.object_view.proofs.LayoutLaws.{SameAt, laid_out, keeps-same}
 use Rattle.object_view.proofs.FrameLaws.{outside_holds}
-use Rattle.object_view.specs.Views.{HasObject}
 use Rattle.old_space.specs.HasBlocks.{HasBlocks, IsBlock, greatest_small}
 use Rattle.old_space.specs.declared.Old.{Old}
 use Rattle.old_space.proofs.JoinLaws.{HasBlocks-blocks}
 use Rattle.store_model.specs.Layout.{Layout}
 use Rattle.store_model.specs.Store.{Store}
 use Rattle.store_model.specs.Sets.{is_in}
-use Rattle.store_model.specs.ObjectWords.{words_at, type_id_at}
+use Rattle.store_model.specs.ObjectWords.{words_at}
 use Rattle.heap_core.specs.Parts.{HeapParts}
 use Rattle.heap_core.specs.Told.{word_in}
 use Rattle.heap_core.specs.StandsFor.{PartsStandFor, HoldsNursery, IsPlainHeader, is_young, young_places, old_places, block_at}

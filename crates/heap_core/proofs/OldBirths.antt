@@ -1,5 +1,5 @@
 -- What a heap stands for when an object is born outside the nursery, in a block that was taken for it.
-use Rattle.std.proofs.Common.{◌≡◌, ℕ, ◌+◌, ◌^◌, ◌<◌, ◌≤◌, ◌⊎◌, true, false, IsTrue, List, [], ◌∷◌, ◌++◌, map, length, Some, refl, sym, ap, ap₂, ◌∙◌, subst, inl, inr, arith}
+use Rattle.std.proofs.Common.{◌≡◌, ℕ, ◌+◌, ◌^◌, ◌<◌, ◌≤◌, true, false, IsTrue, List, [], ◌∷◌, ◌++◌, map, Some, sym, ap, ap₂, ◌∙◌, subst, inl, inr, arith}
 use Rattle.std.specs.Prelude.{slice_set, sum_by}
 use Rattle.std.proofs.lemmas.Bool.{cases_Bool}
 use Rattle.std.proofs.lemmas.Bool.Decides.{nat_tests}
@@ -7,7 +7,7 @@ use Rattle.type_table.specs.declared.info.TypeInfo.{TypeInfo}
 use Rattle.type_table.specs.Table.{value_at}
 use Rattle.type_table.specs.Words.{words_in}
 use Rattle.heap_space.specs.Memory.{Memory}
-use Rattle.heap_space.specs.Extents.{Extent, IsApart, IsOutside}
+use Rattle.heap_space.specs.Extents.{Extent, IsApart}
 use Rattle.heap_space.proofs.Blocks.{lies-with_run}
 use Rattle.object_view.specs.Births.{born_words}
 use Rattle.object_view.proofs.InitLaws.{two-words}
@@ -31,7 +31,7 @@ use Rattle.heap_core.proofs.StandLaws.{sound-by, walk-same}
 use Rattle.heap_core.proofs.Sums.{walk-within}
 use Rattle.heap_core.proofs.HeldLaws.{AreHeld, IsBirthPlace, names-more, born_at, born-same, born-layouts, birth_held, sum-same, sum-more}
 use Rattle.heap_core.proofs.BlockLaws.{each-member, blocks-same, blocks-written, blocks-last, type-plain}
-use Rattle.heap_core.proofs.KeepLaws.{old-above, kept-layouts, kept-nursery, kept-headers, kept_held}
+use Rattle.heap_core.proofs.KeepLaws.{kept-layouts, kept-nursery, kept-headers, kept_held}
 
 -- an object may be born outside the nursery: its words are not too many, and one more birth can be counted
 pub record FitsOld (heap : HeapParts) (type_id : ℕ) (info : TypeInfo) (items : ℕ) : Type 0 where

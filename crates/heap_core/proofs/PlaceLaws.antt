@@ -1,5 +1,5 @@
 -- Places in the nursery and outside it, and the words of the objects there.
-use Rattle.std.proofs.Common.{◌≡◌, ℕ, ◌+◌, Bool, true, false, IsTrue, List, [], ◌∷◌, ◌++◌, map, refl, sym, ap, ap₂, ◌∙◌, subst, inl, inr, arith}
+use Rattle.std.proofs.Common.{◌≡◌, ℕ, ◌+◌, Bool, true, false, IsTrue, List, [], ◌∷◌, ◌++◌, map, refl, sym, ap, ◌∙◌, inl, inr}
 use Rattle.std.specs.Prelude.{sum_by, filter, not}
 use Rattle.std.proofs.lemmas.Bool.{cases_Bool}
 use Rattle.std.proofs.lemmas.List.Sorted.{IsPermutation-filter_both, sum_by-IsPermutation}
@@ -7,7 +7,7 @@ use Rattle.std.proofs.lemmas.List.Sums.{sum_by-append}
 use Rattle.type_table.specs.declared.info.TypeInfo.{TypeInfo}
 use Rattle.type_table.specs.Table.{Table}
 use Rattle.store_model.specs.Object.{Object}
-use Rattle.store_model.specs.Store.{kept_words, unsettled_words, settled_words, is_settled}
+use Rattle.store_model.specs.Store.{kept_words, unsettled_words, settled_words}
 use Rattle.store_model.specs.Sets.{is_in}
 use Rattle.store_model.specs.ObjectWords.{words_at}
 use Rattle.store_model.specs.Holds.{HoldsObjects}

@@ -1,5 +1,5 @@
 -- What a heap stands for when an object is born in the nursery.
-use Rattle.std.proofs.Common.{◌≡◌, ℕ, ◌+◌, ◌^◌, ◌<◌, ◌≤◌, ◌⊎◌, true, false, IsTrue, List, [], ◌∷◌, ◌++◌, map, length, Some, refl, sym, ap, ◌∙◌, subst, inl, inr, arith}
+use Rattle.std.proofs.Common.{◌≡◌, ℕ, ◌+◌, ◌^◌, ◌<◌, ◌≤◌, true, false, IsTrue, List, [], ◌∷◌, ◌++◌, map, Some, sym, ap, ◌∙◌, subst, inl, inr, arith}
 use Rattle.std.specs.Prelude.{slice_set, sum_by}
 use Rattle.std.proofs.lemmas.Bool.{cases_Bool}
 use Rattle.std.proofs.lemmas.Bool.Decides.{nat_tests}
@@ -7,12 +7,12 @@ use Rattle.type_table.specs.declared.info.TypeInfo.{TypeInfo}
 use Rattle.type_table.specs.Table.{value_at}
 use Rattle.type_table.specs.Words.{words_in}
 use Rattle.heap_space.specs.Places.{lies_in_one}
-use Rattle.heap_space.specs.Extents.{Extent, IsOutside}
+use Rattle.heap_space.specs.Extents.{Extent}
 use Rattle.heap_space.proofs.Blocks.{lies-with_run}
 use Rattle.object_view.specs.Births.{born_words}
 use Rattle.object_view.proofs.InitLaws.{two-words, lies-part}
 use Rattle.object_view.proofs.LayoutLaws.{laid_out}
-use Rattle.object_view.proofs.NewbornLaws.{IsFree, born-is, free-unmet, request_of, length-born_words}
+use Rattle.object_view.proofs.NewbornLaws.{born-is, free-unmet, request_of, length-born_words}
 use Rattle.old_space.specs.HasBlocks.{HasBlocks}
 use Rattle.store_model.specs.Birth.{with_birth}
 use Rattle.store_model.specs.Store.{Store}
@@ -23,9 +23,9 @@ use Rattle.heap_core.specs.Told.{word_in}
 use Rattle.heap_core.specs.StandsFor.{PartsStandFor, HoldsNursery, HoldsBlocks, IsPlainHeader, is_young, young_places, old_places, block_at, plain_store}
 use Rattle.heap_core.specs.Effects.{with_newborn, born_young}
 use Rattle.heap_core.proofs.PlaceLaws.{PlacedWords, placed_words, young-more, old-same, young-is_in, old-is_in, is_in-young}
-use Rattle.heap_core.proofs.StandLaws.{SameLayouts, sound-by, walk-same}
+use Rattle.heap_core.proofs.StandLaws.{sound-by, walk-same}
 use Rattle.heap_core.proofs.Sums.{walk-sum, walk-within, walk-more}
-use Rattle.heap_core.proofs.HeldLaws.{AreHeld, IsBirthPlace, held_of, map-names, born_at, born-same, born-layouts, birth_held, sum-same, sum-more}
+use Rattle.heap_core.proofs.HeldLaws.{IsBirthPlace, held_of, map-names, born_at, born-same, born-layouts, birth_held, sum-same, sum-more}
 use Rattle.heap_core.proofs.BlockLaws.{blocks-same, blocks-written}
 use Rattle.heap_core.proofs.KeepLaws.{old-above}
 

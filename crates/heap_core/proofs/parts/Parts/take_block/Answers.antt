@@ -1,6 +1,6 @@
 use Rattle.std.proofs.Common.{IfOk, OnErr, subst}
 use Rattle.heap_core.specs.Parts.{HeapParts}
-use Rattle.heap_core.specs.Effects.{KeepsLive, TakesBlock, TakesNone, with_old_blocks}
+use Rattle.heap_core.specs.Effects.{TakesBlock, TakesNone, with_old_blocks}
 use Rattle.heap_core.specs.contracts.parts.Parts.{the_view}
 use Rattle.heap_core.proofs.KeepLaws.{keeps_live, takes, takes_none}
 use Rattle.heap_core.proofs.parts.Parts.take_block.Goals as goal
