@@ -1,16 +1,14 @@
 -- What a heap stands for when a slot or a word of an object changes.
-use Rattle.std.proofs.Common.{◌≡◌, ◌≢◌, ℕ, zero, suc, ◌+◌, ◌<◌, ◌⊎◌, true, IsTrue, List, [], ◌∷◌, map, Option, Some, refl, sym, ap, ap₂, ◌∙◌, subst, inl, inr, arith}
-use Rattle.std.specs.Prelude.{slice_set, sum_by, IsSome}
+use Rattle.std.proofs.Common.{◌≡◌, ◌≢◌, ℕ, zero, suc, ◌+◌, ◌<◌, ◌⊎◌, true, IsTrue, List, [], ◌∷◌, map, Option, Some, refl, sym, ap, ◌∙◌, subst, inl, inr, arith}
+use Rattle.std.specs.Prelude.{slice_set}
 use Rattle.std.proofs.lemmas.List.{length-set, map-set}
-use Rattle.std.proofs.lemmas.List.Sums.{sum_by-cons}
 use Rattle.std.proofs.lemmas.Bool.{ne_eqb}
 use Rattle.type_table.specs.declared.info.TypeInfo.{TypeInfo}
-use Rattle.type_table.specs.Table.{Table, value_at}
-use Rattle.heap_space.specs.Places.{lies_in_one, word_at, has}
-use Rattle.heap_space.specs.Memory.{Memory}
+use Rattle.type_table.specs.Table.{Table}
+use Rattle.heap_space.specs.Places.{lies_in_one, has}
 use Rattle.heap_space.proofs.Blocks.{lies-with_word}
 use Rattle.object_view.proofs.WordLaws.{is_in-head, is_in-tail, is_in-cases}
-use Rattle.object_view.proofs.LayoutLaws.{KeepsLayout, laid_out}
+use Rattle.object_view.proofs.LayoutLaws.{laid_out}
 use Rattle.object_view.proofs.SpaceLaws.{word_at-written, lies-at}
 use Rattle.object_view.proofs.ChangeLaws.{each-keeps, changes-updated}
 use Rattle.object_view.proofs.FieldLaws.{int_holds, ref_holds}
@@ -21,17 +19,17 @@ use Rattle.store_model.specs.Sets.{is_in}
 use Rattle.store_model.specs.Slots.{held, put_in_slot, changed_at, with_int, with_ref}
 use Rattle.store_model.specs.Steps.{put_int}
 use Rattle.store_model.specs.Sound.{IsSound}
-use Rattle.store_model.specs.Layout.{Layout}
 use Rattle.store_model.specs.ObjectWords.{renamed, updated, words_at}
 use Rattle.store_model.specs.Holds.{HoldsObjects, IsPointer}
 use Rattle.heap_core.specs.Parts.{HeapParts}
 use Rattle.heap_core.specs.Told.{word_in, place_in}
-use Rattle.heap_core.specs.StandsFor.{PartsStandFor, HoldsSlots, IsWalk, AreWhole, RiseBetween, young_places, old_places, plain_store}
+use Rattle.heap_core.specs.StandsFor.{PartsStandFor, HoldsSlots, RiseBetween, young_places, old_places, plain_store}
 use Rattle.heap_core.specs.Effects.{with_slot, with_word_at, int_place, ref_place, layout_in}
 use Rattle.heap_core.proofs.SoundLaws.{sound_of, pointer-some}
 use Rattle.heap_core.proofs.ToldLaws.{held-named, slot-pointer}
+use Rattle.heap_core.proofs.SameLayouts.{SameLayouts, walk-same, whole-same, sum-same}
 use Rattle.heap_core.proofs.PlaceLaws.{placed_words, young-is_in, old-is_in}
-use Rattle.heap_core.proofs.WriteLaws.{blocks-written}
+use Rattle.heap_core.proofs.WriteLaws.{word-written}
 
 behind-set : (x y z : ℕ) (xs : List ℕ) → (x ≡ y) ⊎ IsTrue (is_in x xs) → (x ≡ y) ⊎ IsTrue (is_in x (z ∷ xs))
 behind-set x y z xs (inl e) = inl e
@@ -102,38 +100,6 @@ slot_stands heap store root place s pointer =
       sound = sound-by heap.setup.settings after heap.next (slice_set heap.slots root place) s.objects in_slots s.next s.births s.settled others;
     }
 
--- the words v have the layouts of the words w at these places
-abbrev pub SameLayouts : Table TypeInfo → (ℕ → ℕ) → (ℕ → ℕ) → List ℕ → Type 0
-SameLayouts types v w places = (p : ℕ) → IsTrue (is_in p places) → KeepsLayout types v w p
-
-pub walk-same : (types : Table TypeInfo) (v w : ℕ → ℕ) (from end : ℕ) (places : List ℕ) → SameLayouts types v w places
-    → IsWalk types w from places end → IsWalk types v from places end
-walk-same types v w from end [] same walk = walk
-walk-same types v w from end (p ∷ places) same walk =
-    let words : words_at types w p ≡ words_at types v p = sym (ap (λ (l : Layout). l.words) (same p (is_in-head p places)).layout_stays) in (
-      walk.0,
-      subst (λ (n : ℕ). IsWalk types v (from + n) places end) words
-          (walk-same types v w (from + words_at types w p) end places (λ q t. same q (is_in-tail q p places t)) walk.1),
-    )
-
--- objects stand whole where blocks and layouts are the same
-pub whole-same : (old new : Memory) (types : Table TypeInfo) (places : List ℕ) → SameLayouts types (word_at new.blocks) (word_at old.blocks) places
-    → ((a n : ℕ) → lies_in_one new.blocks a n ≡ lies_in_one old.blocks a n) → AreWhole old types places → AreWhole new types places
-whole-same old new types places same lies whole = λ p t.
-    let keeps = same p t in let object = whole p t in record {
-      typed = subst (λ (id : ℕ). IsSome (value_at types id)) (sym keeps.type_stays) object.typed;
-      whole = rw lies (subst (λ (l : Layout). IsTrue (lies_in_one old.blocks p l.words)) (sym keeps.layout_stays) object.whole);
-    }
-
--- the sums of words at these places are the same where the layouts are
-pub sum-same : (types : Table TypeInfo) (v w : ℕ → ℕ) (places : List ℕ) → SameLayouts types v w places
-    → sum_by (words_at types v) places ≡ sum_by (words_at types w) places
-sum-same types v w [] same = refl
-sum-same types v w (p ∷ places) same =
-    sum_by-cons (words_at types v) p places
-    ∙ (ap₂ (λ (a b : ℕ). a + b) (ap (λ (l : Layout). l.words) (same p (is_in-head p places)).layout_stays)
-    (sum-same types v w places (λ q t. same q (is_in-tail q p places t))) ∙ sym (sum_by-cons (words_at types w) p places))
-
 -- the numbers of words are those of the same objects, of which one may have changed within its layout
 pub numbers-same : {types : Table TypeInfo} {v w name : ℕ → ℕ} {met places : List ℕ} {kept changed : List Object} (settled : List ℕ)
     → HoldsObjects types w met places name kept → HoldsObjects types v met places name changed → settled ≡ map name (old_places places)
@@ -176,7 +142,7 @@ word_stands heap store s p at value birth change there low high same holds =
         room = s.nursery.room;
         whole = rw lies s.nursery.whole;
       };
-      blocks = blocks-written heap.old_blocks heap.memory (word_in new) heap.setup.settings.nursery heap.free p at value s.objects s.ranges.1 s.nursery there
+      blocks = word-written heap.old_blocks heap.memory (word_in new) heap.setup.settings.nursery heap.free p at value s.objects s.ranges.1 s.nursery there
           low high (sym words) layouts s.blocks;
       settled = s.settled;
       slots = s.slots;

@@ -1,47 +1,30 @@
 -- The blocks outside the nursery when words of an object change.
-use Rattle.std.proofs.Common.{◌≡◌, ◌≢◌, ℕ, ◌+◌, ◌<◌, ◌≤◌, ◌⊎◌, true, false, IsTrue, List, [], ◌∷◌, map, refl, sym, ap, ap₂, ◌∙◌, subst, inl, inr, arith}
+use Rattle.std.proofs.Common.{◌≡◌, ◌≢◌, ℕ, ◌+◌, ◌<◌, ◌≤◌, ◌⊎◌, IsTrue, List, [], map, refl, sym, ap, ◌∙◌, subst, inl, inr, arith}
 use Rattle.std.specs.Prelude.{filter}
 use Rattle.std.proofs.lemmas.Bool.{cases_Bool}
-use Rattle.std.proofs.lemmas.Bool.Decides.{nat_tests}
 use Rattle.type_table.specs.declared.info.TypeInfo.{TypeInfo}
 use Rattle.type_table.specs.Table.{Table}
-use Rattle.heap_space.specs.Places.{Placed, with_word, word_at}
+use Rattle.heap_space.specs.Places.{with_word, word_at}
 use Rattle.heap_space.specs.Memory.{Memory}
-use Rattle.heap_space.specs.Extents.{Extent, Each, IsOutside, IsUntouched, extent_of, begins_between}
+use Rattle.heap_space.specs.Extents.{Extent, IsOutside, IsUntouched, begins_between}
 use Rattle.heap_space.proofs.Blocks.{word_at-elsewhere}
 use Rattle.heap_space.proofs.ExtentLaws.{extents-with_word}
 use Rattle.old_space.specs.HasBlocks.{HasBlocks}
 use Rattle.old_space.specs.declared.Old.{Old}
 use Rattle.old_space.proofs.JoinLaws.{HasBlocks_untouched}
-use Rattle.object_view.proofs.WordLaws.{is_in-head, is_in-tail, is_in-cases, is_in-nil, updated-other}
+use Rattle.object_view.proofs.WordLaws.{updated-other}
 use Rattle.object_view.proofs.LayoutLaws.{KeepsLayout, laid_out}
 use Rattle.store_model.specs.Object.{Object}
 use Rattle.store_model.specs.Sets.{is_in}
-use Rattle.store_model.specs.Layout.{Layout}
 use Rattle.store_model.specs.ObjectWords.{updated, words_at, Covers}
 use Rattle.store_model.specs.Holds.{HoldsObjects}
 use Rattle.heap_core.specs.StandsFor.{is_young, old_places, young_places, block_at, IsPlainHeader, HoldsBlocks, HoldsNursery}
 use Rattle.heap_core.proofs.PlaceLaws.{is_in-old, is_in-young, old-is_in}
-use Rattle.heap_core.proofs.Sums.{walk-within}
-
--- what holds of each block holds of that of one of the places
-pub block-each : (P : Extent → Type 0) (types : Table TypeInfo) (w : ℕ → ℕ) (ps : List ℕ) (p : ℕ) → IsTrue (is_in p ps)
-    → Each P (map (block_at types w) ps) → P (block_at types w p)
-block-each P types w [] p t each = absurd (is_in-nil p t)
-block-each P types w (q ∷ ps) p t each = elim (is_in-cases p q ps t) [
-  | inl e ↦ subst (λ (k : ℕ). P (block_at types w k)) (sym e) each.0
-  | inr u ↦ block-each P types w ps p u each.1
-]
-
--- objects of the same layouts have the same blocks
-pub blocks-same : (types : Table TypeInfo) (v w : ℕ → ℕ) (ps : List ℕ) → ((p : ℕ) → IsTrue (is_in p ps) → words_at types v p ≡ words_at types w p)
-    → map (block_at types v) ps ≡ map (block_at types w) ps
-blocks-same types v w [] same = refl
-blocks-same types v w (p ∷ ps) same =
-    ap₂ (λ (n : ℕ) (xs : List Extent). (p, n) ∷ xs) (same p (is_in-head p ps)) (blocks-same types v w ps (λ q t. same q (is_in-tail q p ps t)))
+use Rattle.heap_core.proofs.BlockLaws.{each-member, blocks-same}
+use Rattle.heap_core.proofs.Walks.{walk-within}
 
 -- a place outside the nursery and outside all live blocks is that of no word of an object
-pub outside-objects : (types : Table TypeInfo) (w : ℕ → ℕ) (places : List ℕ) (nursery free : ℕ) (m : Memory) (p a : ℕ) → nursery ≤ 1048576
+outside-objects : (types : Table TypeInfo) (w : ℕ → ℕ) (places : List ℕ) (nursery free : ℕ) (m : Memory) (p a : ℕ) → nursery ≤ 1048576
     → HoldsNursery nursery m types w free (young_places places) → IsTrue (is_in p places) → 4294967296 ≤ a
     → IsOutside (map (block_at types w) (old_places places)) a → Covers types w p a → ⊥
 outside-objects types w places nursery free m p a small holds t low out covers = elim (cases_Bool (is_young p)) [
@@ -49,7 +32,7 @@ outside-objects types w places nursery free m p a small holds t low out covers =
       let within = walk-within types w 1 free p (young_places places) holds.walk (is_in-young places p t e) in
       let no : ⊥ = omega (arith, within.1, holds.room, small, low, covers.1) in no
   | inr e ↦
-      let outside = block-each (λ x. (a < x.0) ⊎ (x.0 + x.1 ≤ a)) types w (old_places places) p (is_in-old places p t e) out in
+      let outside = each-member (λ x. (a < x.0) ⊎ (x.0 + x.1 ≤ a)) (block_at types w) (old_places places) p out (is_in-old places p t e) in
       elim outside [
         | inl below ↦ let no : ⊥ = omega (arith, below, covers.0) in no
         | inr above ↦ let no : ⊥ = omega (arith, above, covers.1) in no
@@ -57,7 +40,7 @@ outside-objects types w places nursery free m p a small holds t low out covers =
 ]
 
 -- a word that is none outside the nursery and the live blocks is written
-pub blocks-word : (old : Old) (m : Memory) (live : List Extent) (at value : ℕ) → HasBlocks old m live []
+blocks-word : (old : Old) (m : Memory) (live : List Extent) (at value : ℕ) → HasBlocks old m live []
     → ((a : ℕ) → 4294967296 ≤ a → IsOutside live a → a ≢ at) → HasBlocks old (record m { blocks = with_word m.blocks at value }) live []
 blocks-word old m live at value h apart =
     let new : Memory = record m { blocks = with_word m.blocks at value } in
@@ -68,7 +51,7 @@ blocks-word old m live at value h apart =
     HasBlocks_untouched old m new live [] h refl refl untouched
 
 -- a word behind the first of an object is not the first of any
-pub not-first : {types : Table TypeInfo} {w name : ℕ → ℕ} {met places : List ℕ} {kept : List Object} (p q at : ℕ)
+not-first : {types : Table TypeInfo} {w name : ℕ → ℕ} {met places : List ℕ} {kept : List Object} (p q at : ℕ)
     → HoldsObjects types w met places name kept → IsTrue (is_in p places) → IsTrue (is_in q places) → p < at → at < p + words_at types w p → q ≢ at
 not-first {types = types} {w = w} p q at h t u low high e =
     let laid = laid_out types w q in
@@ -76,20 +59,20 @@ not-first {types = types} {w = w} p q at h t u low high e =
     let no : ⊥ = omega (arith, same, e, low) in no
 
 -- A word behind the header of an object is written: the blocks hold the same objects.
-pub blocks-written : {types : Table TypeInfo} {name : ℕ → ℕ} {met places : List ℕ} {kept : List Object} (old : Old) (m : Memory) (v : ℕ → ℕ)
+pub word-written : {types : Table TypeInfo} {name : ℕ → ℕ} {met places : List ℕ} {kept : List Object} (old : Old) (m : Memory) (v : ℕ → ℕ)
     (nursery free p at value : ℕ) → HoldsObjects types (word_at m.blocks) met places name kept → nursery ≤ 1048576
     → HoldsNursery nursery m types (word_at m.blocks) free (young_places places) → IsTrue (is_in p places) → p < at
     → at < p + words_at types (word_at m.blocks) p → v ≡ updated (word_at m.blocks) at value
     → ((q : ℕ) → IsTrue (is_in q places) → KeepsLayout types v (word_at m.blocks) q)
     → HoldsBlocks old m types (word_at m.blocks) (old_places places)
     → HoldsBlocks old (record m { blocks = with_word m.blocks at value }) types v (old_places places)
-blocks-written {types = types} {places = places} old m v nursery free p at value h small walk t low high is keeps blocks =
+word-written {types = types} {places = places} old m v nursery free p at value h small walk t low high is keeps blocks =
     let w : ℕ → ℕ = word_at m.blocks in
     let new : Memory = record m { blocks = with_word m.blocks at value } in
-    let same : map (block_at types v) (old_places places) ≡ map (block_at types w) (old_places places) =
-    blocks-same types v w (old_places places) (λ q u. ap (λ (l : Layout). l.words) (keeps q (old-is_in places q u).0).layout_stays) in
+    let same : map (block_at types w) (old_places places) ≡ map (block_at types v) (old_places places) =
+    blocks-same types v w (old_places places) (λ q u. keeps q (old-is_in places q u).0) in
     record {
-      live = subst (λ (xs : List Extent). HasBlocks old new xs []) (sym same)
+      live = subst (λ (xs : List Extent). HasBlocks old new xs []) same
           (blocks-word old m (map (block_at types w) (old_places places)) at value blocks.live (λ a far out e.
           outside-objects types w places nursery free m p a small walk t far out (omega (arith, low, e), omega (arith, high, e))));
       headers = λ q u.
