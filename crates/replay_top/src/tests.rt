@@ -49,7 +49,7 @@ fn replayed(
     })
 }
 
-const ROWS: [Row; 26] = [
+const ROWS: [Row; 38] = [
     Row {
         script: b"",
         out: b"",
@@ -141,7 +141,7 @@ const ROWS: [Row; 26] = [
         status: Status::Malformed,
     },
     Row {
-        script: b"type 1 fixed 1 0\nnew 0 1\nused\n",
+        script: b"type 1 fixed 1 0\nnew 0 1\nminor\n",
         out: b"new 1 young\n",
         err: b"malformed: line 3: NotBuilt\n",
         status: Status::Malformed,
@@ -178,9 +178,9 @@ const ROWS: [Row; 26] = [
     },
     Row {
         script: b"set young 9\ntype 1 ints\nnew 0 1 6\nnew 0 1 7\n",
-        out: b"new 1 young\n",
-        err: b"malformed: line 4: NotBuilt\n",
-        status: Status::Malformed,
+        out: b"new 1 young\nnew 2 old\n",
+        err: b"",
+        status: Status::Done,
     },
     Row {
         script: b"set limit 64\nset nursery 1000\ntype 1 ints\nnew 0 1 61\nnew 0 1 0\n",
@@ -205,6 +205,78 @@ const ROWS: [Row; 26] = [
         out: b"",
         err: b"malformed: line 1: Range\n",
         status: Status::Malformed,
+    },
+    Row {
+        script: b"used\nset pins 1\n",
+        out: b"used 0 0\n",
+        err: b"malformed: line 2: Late\n",
+        status: Status::Malformed,
+    },
+    Row {
+        script: b"type 1 ints\nnew 0 1 1100\nused\n",
+        out: b"new 1 old\nused 1103 0\n",
+        err: b"",
+        status: Status::Done,
+    },
+    Row {
+        script: b"type 1 ints\nnew 0 1 1021\nnew 1 1 1022\nused\n",
+        out: b"new 1 young\nnew 2 old\nused 2049 0\n",
+        err: b"",
+        status: Status::Done,
+    },
+    Row {
+        script: b"set nursery 16\nset young 17\ntype 1 ints\nnew 0 1 13\nused\nnew 1 1 0\n",
+        out: b"new 1 young\nused 16 0\n",
+        err: b"malformed: line 6: NotBuilt\n",
+        status: Status::Malformed,
+    },
+    Row {
+        script: b"set nursery 64\nset young 8\ntype 1 ints\nnew 0 1 5\nnew 1 1 53\nused\nnew 2 1 0\n",
+        out: b"new 1 young\nnew 2 old\nused 64 0\n",
+        err: b"malformed: line 7: NotBuilt\n",
+        status: Status::Malformed,
+    },
+    Row {
+        script: b"set nursery 64\nset young 8\ntype 1 ints\nnew 0 1 5\nnew 1 1 54\n",
+        out: b"new 1 young\n",
+        err: b"malformed: line 5: NotBuilt\n",
+        status: Status::Malformed,
+    },
+    Row {
+        script: b"set limit 64\nset young 8\ntype 1 ints\nnew 0 1 5\nnew 1 1 53\nused\nnew 2 1 0\n",
+        out: b"new 1 young\nnew 2 old\nused 64 0\n",
+        err: b"malformed: line 7: NotBuilt\n",
+        status: Status::Malformed,
+    },
+    Row {
+        script: b"set limit 64\nset young 8\ntype 1 ints\nnew 0 1 5\nnew 1 1 54\n",
+        out: b"new 1 young\n",
+        err: b"malformed: line 5: NotBuilt\n",
+        status: Status::Malformed,
+    },
+    Row {
+        script: b"set nursery 1048576\nset limit 16777216\ntype 1 ints\nnew 0 1 16777216\n",
+        out: b"",
+        err: b"malformed: line 4: NotBuilt\n",
+        status: Status::Malformed,
+    },
+    Row {
+        script: b"set young 8\ntype 1 refs\ntype 2 fixed 1 1\nnew 0 1 7\nnew 1 2\nput 1 0 7\nlink 0 6 1\nlink 1 0 0\ndrop 1\nload 2 0 6\nget 2 0\nload 3 2 0\nsame 3 0\nload 4 3 0\ndrop 0\ndrop 3\nload 5 2 0\nload 6 5 6\nused\n",
+        out: b"new 1 old\nnew 2 young\nloaded 2\ngot 7\nloaded 1\nsame yes\nloaded nil\nloaded 1\nloaded 2\nused 14 0\n",
+        err: b"",
+        status: Status::Done,
+    },
+    Row {
+        script: b"set young 8\ntype 1 fixed 7 1\ntype 2 ints\nnew 0 1\nput 0 6 11\nnew 1 2 62\nput 1 0 13\nput 1 61 18446744073709551615\nnew 2 1\nlink 2 0 1\nlink 0 0 2\nload 3 0 0\nload 4 3 0\nget 0 6\nget 3 6\nget 4 0\nget 4 1\nget 4 61\nused\n",
+        out: b"new 1 old\nnew 2 old\nnew 3 old\nloaded 3\nloaded 2\ngot 11\ngot 0\ngot 13\ngot 0\ngot 18446744073709551615\nused 85 0\n",
+        err: b"",
+        status: Status::Done,
+    },
+    Row {
+        script: b"set young 8\nset page 64\nset arena 1\nset small 4096\ntype 1 ints\nnew 0 1 53\nnew 1 1 54\nnew 2 1 53\nput 0 52 1\nput 1 53 2\nget 0 52\nget 1 53\nget 2 52\nused\n",
+        out: b"new 1 old\nnew 2 old\nnew 3 old\ngot 1\ngot 2\ngot 0\nused 169 0\n",
+        err: b"",
+        status: Status::Done,
     },
 ];
 

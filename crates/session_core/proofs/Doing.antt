@@ -1,17 +1,18 @@
 -- What the calls of a heap do is what the commands are.
-use Rattle.std.proofs.Common.{◌≡◌, ℕ, true, false, Bool, List, [], ◌∷◌, ◌++◌, Option, Some, None, Result, Ok, Err, refl, sym, ap, append-nil}
+use Rattle.std.proofs.Common.{◌≡◌, ℕ, true, false, Bool, List, [], ◌∷◌, ◌++◌, Option, Some, None, Result, Ok, Err, refl, sym, ap, ap₂, append-nil}
 use Rattle.std.specs.Prelude.{OnOk}
 use Rattle.store_model.specs.declared.command.Command.{Command}
-use Rattle.store_model.specs.declared.command.Command.TheVariants.{NewFixed, NewArray, Put, Get, Link, Load, MoveRoot, DropRoot, Same}
+use Rattle.store_model.specs.declared.command.Command.TheVariants.{NewFixed, NewArray, Put, Get, Link, Load, MoveRoot, DropRoot, Same, Used}
 use Rattle.store_model.specs.declared.line.Line.{Line}
-use Rattle.store_model.specs.declared.line.Line.TheVariants.{Got, Loaded, SameAs}
+use Rattle.store_model.specs.declared.line.Line.TheVariants.{Got, Loaded, SameAs, UsedIs}
 use Rattle.store_model.specs.Setup.{Setup}
-use Rattle.store_model.specs.Store.{Store}
+use Rattle.store_model.specs.Store.{Store, kept_words, husk_words}
 use Rattle.store_model.specs.Slots.{held, put_in_slot, is_same}
 use Rattle.store_model.specs.Steps.{Does, int_at, ref_at, put_int, put_ref, array_request}
 use Rattle.store_model.specs.declared.item.Reason.TheVariants.{NotBuilt, Range}
 use Rattle.store_model.specs.Range.{is_above}
 use Rattle.store_model.specs.Refusal.{is_unbuilt}
+use Rattle.heap_core.specs.declared.fault.HeapFault.{HeapFault}
 use Rattle.heap_core.specs.Parts.{HeapParts, HeapSeen}
 use Rattle.heap_core.specs.StandsFor.{StandsFor, StandsForIf}
 use Rattle.heap_core.specs.Commands.{OfParts, AreReady, CanDo, CanDoIf, Changes, Bears}
@@ -134,6 +135,32 @@ does_same heap a b equal before after can is appended = record {
   );
 }
 
+-- the words of all objects and of husks, as an answer
+abbrev the_answer : ℕ × ℕ → Result (ℕ × ℕ) HeapFault
+the_answer words = Ok words
+
+-- what two answers that are the same tell
+ok_both : (a b c d : ℕ) → the_answer (a, b) ≡ the_answer (c, d) → (a ≡ c) × (b ≡ d)
+ok_both a b c d e = let both : (a, b) ≡ (c, d) = cc in (ap (λ (p : ℕ × ℕ). p.0) both, ap (λ (p : ℕ × ℕ). p.1) both)
+
+pub does_used : (heap : HeapSeen) (kept husks : ℕ) (before after : List Line) → CanDo heap Used
+    → ((store : Store) → StandsFor heap store → the_answer (kept, husks) ≡ the_answer (kept_words store.kept, husk_words store.husks))
+    → after ≡ before ++ UsedIs kept husks ∷ [] → DoesCommand heap heap Used before after
+unfolding Does
+does_used heap kept husks before after can is appended = record {
+  lines = UsedIs kept husks ∷ [];
+  appended = appended;
+  setup = refl;
+  same_spent = refl;
+  does = λ store stands. (
+    store,
+    of_parts heap Used store (λ parts. Does parts.setup store Used (UsedIs kept husks ∷ []) store) can stands
+        (λ parts ready. let both = ok_both kept husks (kept_words store.kept) (husk_words store.husks) (is store stands) in
+        (ap₂ (λ (k h : ℕ). UsedIs k h ∷ []) both.0 both.1, refl)),
+    stands,
+  );
+}
+
 pub does_fixed : (old new : HeapSeen) (command : Command) (root type_id : ℕ) (before after : List Line) → command ≡ NewFixed root type_id
     → Bears old new (array_request root type_id 0) before after → DoesCommand old new command before after
 unfolding Does
@@ -150,17 +177,18 @@ does_array old new command root type_id len before after is bears =
 pub built_is : (command : Command) → is_unbuilt command ≡ false
     → ((a b : ℕ) → command ≡ NewFixed a b → ⊥) → ((a b n : ℕ) → command ≡ NewArray a b n → ⊥) → ((a b n : ℕ) → command ≡ Put a b n → ⊥)
     → ((a b : ℕ) → command ≡ Get a b → ⊥) → ((a b n : ℕ) → command ≡ Link a b n → ⊥) → ((a b n : ℕ) → command ≡ Load a b n → ⊥)
-    → ((a b : ℕ) → command ≡ MoveRoot a b → ⊥) → ((a : ℕ) → command ≡ DropRoot a → ⊥) → ((a b : ℕ) → command ≡ Same a b → ⊥) → ⊥
-built_is (NewFixed a b) built fixed array puts gets links loads moves drops sames = fixed a b refl
-built_is (NewArray a b n) built fixed array puts gets links loads moves drops sames = array a b n refl
-built_is (Put a b n) built fixed array puts gets links loads moves drops sames = puts a b n refl
-built_is (Get a b) built fixed array puts gets links loads moves drops sames = gets a b refl
-built_is (Link a b n) built fixed array puts gets links loads moves drops sames = links a b n refl
-built_is (Load a b n) built fixed array puts gets links loads moves drops sames = loads a b n refl
-built_is (MoveRoot a b) built fixed array puts gets links loads moves drops sames = moves a b refl
-built_is (DropRoot a) built fixed array puts gets links loads moves drops sames = drops a refl
-built_is (Same a b) built fixed array puts gets links loads moves drops sames = sames a b refl
-built_is command built fixed array puts gets links loads moves drops sames = let no : ⊥ = cc in no
+    → ((a b : ℕ) → command ≡ MoveRoot a b → ⊥) → ((a : ℕ) → command ≡ DropRoot a → ⊥) → ((a b : ℕ) → command ≡ Same a b → ⊥) → (command ≡ Used → ⊥) → ⊥
+built_is (NewFixed a b) built fixed array puts gets links loads moves drops sames useds = fixed a b refl
+built_is (NewArray a b n) built fixed array puts gets links loads moves drops sames useds = array a b n refl
+built_is (Put a b n) built fixed array puts gets links loads moves drops sames useds = puts a b n refl
+built_is (Get a b) built fixed array puts gets links loads moves drops sames useds = gets a b refl
+built_is (Link a b n) built fixed array puts gets links loads moves drops sames useds = links a b n refl
+built_is (Load a b n) built fixed array puts gets links loads moves drops sames useds = loads a b n refl
+built_is (MoveRoot a b) built fixed array puts gets links loads moves drops sames useds = moves a b refl
+built_is (DropRoot a) built fixed array puts gets links loads moves drops sames useds = drops a refl
+built_is (Same a b) built fixed array puts gets links loads moves drops sames useds = sames a b refl
+built_is Used built fixed array puts gets links loads moves drops sames useds = useds refl
+built_is command built fixed array puts gets links loads moves drops sames useds = let no : ⊥ = cc in no
 
 -- what parts are ready for is built
 ready_built : (parts : HeapParts) (command : Command) → AreReady parts command → is_unbuilt command ≡ false

@@ -17,10 +17,10 @@ use Rattle.store_model.specs.Checks.{first_reason, is_outside, ranges}
 use Rattle.store_model.specs.Look.{Look}
 use Rattle.store_model.specs.Refusal.{refusal_seen, command_checks}
 use Rattle.store_model.specs.Transcript.{ItemDoes}
-use Rattle.heap_core.specs.Parts.{HeapParts, HeapSeen, heap_of, started_parts, closed_heap}
+use Rattle.heap_core.specs.Parts.{HeapParts, HeapSeen, heap_of, closed_heap}
 use Rattle.heap_core.specs.Told.{told}
 use Rattle.heap_core.specs.StandsFor.{StandsFor}
-use Rattle.heap_core.specs.Commands.{OfParts, AreReady, CanDo, IsStanding, setup_in, told_by}
+use Rattle.heap_core.specs.Commands.{OfParts, AreReady, CanDo, IsFresh, IsStanding, setup_in, told_by}
 use Rattle.heap_core.proofs.Ready.{passed}
 use Rattle.session_core.specs.Seen.{SessionSeen}
 use Rattle.session_core.specs.Doing.{DoesCommand}
@@ -151,14 +151,15 @@ begins_again session new heap is same placed = record {
 -- the heap is started
 pub begins_first : (session new : SessionSeen) (heap started : HeapSeen) (types : Table TypeInfo) → session.types ≡ Some types
     → new.types ≡ None → new.settings ≡ session.settings → new.names ≡ session.names
-    → started ≡ heap_of (started_parts session.settings types) → StandsFor started (empty_store session.settings) → Begins session new heap started
-begins_first session new heap started types is none settings names becomes empty = record {
+    → IsFresh started session.settings types → StandsFor started (empty_store session.settings) → Begins session new heap started
+begins_first session new heap started types is none settings names fresh empty = record {
   types = none;
   settings = settings;
   names = names;
-  has_heap = record { parts = started_parts session.settings types; is = becomes; settings_are = refl };
-  table = ap (λ (h : HeapSeen). table_of h.parts) becomes ∙ ap (λ (t : Option (Table TypeInfo)). types_in t heap) (sym is);
-  told = ap told_by becomes ∙ (told-started session.settings types ∙ ap (λ (t : Option (Table TypeInfo)). seen_if t heap) (sym is));
+  has_heap = record { parts = fresh.parts; is = fresh.is; settings_are = ap (λ (p : HeapParts). p.setup.settings) fresh.fresh.are };
+  table = ap (λ (h : HeapSeen). table_of h.parts) fresh.is
+      ∙ (ap (λ (p : HeapParts). p.setup.types) fresh.fresh.are ∙ ap (λ (t : Option (Table TypeInfo)). types_in t heap) (sym is));
+  told = ap told_by fresh.is ∙ (told-started fresh.parts session.settings types fresh.fresh ∙ ap (λ (t : Option (Table TypeInfo)). seen_if t heap) (sym is));
   stores = λ store stands. subst (StandsFor started) (sym (subst (λ (t : Option (Table TypeInfo)). HasStore t session.settings heap store) is stands)) empty;
 }
 

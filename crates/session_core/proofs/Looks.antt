@@ -13,7 +13,7 @@ use Rattle.store_model.specs.Look.{Look, look, is_held_in}
 use Rattle.store_model.specs.Progress.{Progress}
 use Rattle.store_model.specs.Refusal.{refusal, refusal_seen}
 use Rattle.store_model.specs.declared.structure.StructState.TheVariants.{Absent}
-use Rattle.heap_core.specs.Parts.{HeapParts, HeapSeen, started_parts}
+use Rattle.heap_core.specs.Parts.{HeapParts, HeapSeen, started_parts, AreFresh}
 use Rattle.heap_core.specs.Told.{word_in, kind_at, told}
 use Rattle.heap_core.specs.Commands.{nothing_told}
 use Rattle.heap_core.proofs.Calls.{look_told}
@@ -39,6 +39,7 @@ look-empty settings =
       has_p_link = λ root. false;
       structure = λ number. Absent;
       unsettled = 0;
+      fresh = 0;
       kept = 0;
     } in
     same
@@ -49,13 +50,13 @@ place-none zero root = refl
 place-none (suc roots) zero = refl
 place-none (suc roots) (suc root) = place-none roots root
 
-pub told-started : (settings : Settings) (types : Table TypeInfo) → told (started_parts settings types) ≡ nothing_told
-told-started settings types =
-    let heap : HeapParts = started_parts settings types in
+pub told-started : (parts : HeapParts) (settings : Settings) (types : Table TypeInfo) → AreFresh parts settings types → told parts ≡ nothing_told
+told-started parts settings types fresh =
+    let heap : HeapParts = started_parts settings types fresh.old_blocks in
     let kinds : (root : ℕ) → kind_at types (word_in heap) (slice_index_or (replicate settings.roots 0) root 0) ≡ None =
     λ root. ap (kind_at types (word_in heap)) (place-none settings.roots root) in
     let same : told heap ≡ nothing_told = λ i. record nothing_told { kind = λ root. kinds root i } in
-    same
+    ap told fresh.are ∙ same
 
 look-seen : (types : Option (Table TypeInfo)) (settings : Settings) (heap : HeapSeen) (store : Store) → HasHeap types settings heap
     → HasStore types settings heap store → look store ≡ seen_if types heap

@@ -1,6 +1,6 @@
 //! The commands that are not refused.
 ghost use Rattle.std.specs.Prelude.{OnOk, ◌⊎◌};
-ghost use Rattle.store_model.specs.declared.command.Command.TheVariants.{Get, Load, Same};
+ghost use Rattle.store_model.specs.declared.command.Command.TheVariants.{Get, Load, Same, Used};
 ghost use Rattle.heap_core.specs.Commands.{CanDo, CanBear, Bears};
 ghost use Rattle.store_model.specs.Steps.{array_request};
 ghost use Rattle.session_core.specs.Doing.{DoesCommand};
@@ -27,6 +27,7 @@ pub(crate) fn do_command(
         Command::MoveRoot { to, from } => heap.move_root(to, from),
         Command::DropRoot { root } => heap.drop_root(root),
         Command::Same { a, b } => same(heap, a, b, out),
+        Command::Used => used(heap, out),
         _ => Ok(()),
     }
 }
@@ -64,5 +65,15 @@ fn same(heap: &mut Heap, a: u32, b: u32, out: &mut Vec<Line>) -> Result<(), Heap
 {
     let equal = heap.same(a, b)?;
     out.push(Line::SameAs { yes: equal })?;
+    Ok(())
+}
+
+/// The words of all objects, and those of husks.
+fn used(heap: &mut Heap, out: &mut Vec<Line>) -> Result<(), HeapFault>
+    requires { CanDo heap.old Used }
+    ensures { OnOk result (DoesCommand heap.old heap.new Used out.old.items out.new.items) }
+{
+    let (kept, husks) = heap.used()?;
+    out.push(Line::UsedIs { kept, husks })?;
     Ok(())
 }

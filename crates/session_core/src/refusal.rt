@@ -95,6 +95,7 @@ impl Session {
             Command::MoveRoot { to, from } => self.slots_refusal(to, from),
             Command::DropRoot { root } => self.slot_refusal(root),
             Command::Same { a, b } => self.slots_refusal(a, b),
+            Command::Used => None,
             _ => Some(Reason::NotBuilt),
         }
     }
@@ -160,7 +161,7 @@ impl Session {
         ensures { let seen = seen_if self.now.types heap.now in
             let info : Option TypeInfo = type_at (setup_of self.now heap.now) type_id in
             result ≡ first_reason (slots_checks self.now.settings.roots (root ∷ []) ++ (born_checks info is_fixed_shape
-            ++ room_checks self.now.settings (type_words info 0) seen.unsettled seen.kept)) }
+            ++ room_checks self.now.settings (type_words info 0) seen.unsettled seen.fresh seen.kept)) }
     {
         if u64::from(root) >= self.settings.roots {
             return Some(Reason::NoRoot);
@@ -181,7 +182,7 @@ impl Session {
         ensures { let seen = seen_if self.now.types heap.now in
             let info : Option TypeInfo = type_at (setup_of self.now heap.now) type_id in
             result ≡ first_reason (slots_checks self.now.settings.roots (root ∷ []) ++ (born_checks info is_array_shape
-            ++ room_checks self.now.settings (type_words info len) seen.unsettled seen.kept)) }
+            ++ room_checks self.now.settings (type_words info len) seen.unsettled seen.fresh seen.kept)) }
     {
         if u64::from(root) >= self.settings.roots {
             return Some(Reason::NoRoot);
@@ -195,21 +196,20 @@ impl Session {
         }
     }
 
-    /// Of a birth of so many words.
+    /// Of a birth of so many words. What would need a collection is not built yet.
     fn room_refusal(&self, heap: &Heap, words: u64) -> Option<Reason>
-        requires { IsPlaced self.now heap.now }
+        requires placed { IsPlaced self.now heap.now }
+        requires few { words ≤ 16777219 }
         ensures { let seen = seen_if self.now.types heap.now in
-            result ≡ first_reason (room_checks self.now.settings words seen.unsettled seen.kept) }
+            result ≡ first_reason (room_checks self.now.settings words seen.unsettled seen.fresh seen.kept) }
     {
-        if words > self.settings.young.min(self.settings.nursery) {
-            return Some(Reason::NotBuilt);
-        }
         let unsettled = self.unsettled_words(heap);
-        if words > self.settings.nursery - unsettled {
+        let fresh = self.fresh_words(heap);
+        if unsettled + fresh + words > self.settings.nursery {
             return Some(Reason::NotBuilt);
         }
         let kept = self.kept_words(heap);
-        if words > self.settings.limit - kept {
+        if kept + words > self.settings.limit {
             return Some(Reason::NotBuilt);
         }
         None
@@ -223,6 +223,18 @@ impl Session {
     {
         match &self.types {
             None => heap.unsettled_words(),
+            Some(_) => 0,
+        }
+    }
+
+    /// The words of the objects that were born outside the nursery.
+    fn fresh_words(&self, heap: &Heap) -> u64
+        requires { IsPlaced self.now heap.now }
+        ensures value { result ≡ (seen_if self.now.types heap.now).fresh }
+        ensures limit { result ≤ self.now.settings.limit }
+    {
+        match &self.types {
+            None => heap.fresh_words(),
             Some(_) => 0,
         }
     }

@@ -31,4 +31,4 @@ returns-in-NewArray c = on_ok_then c.new_object-in-NewArray.result _ _
 pub returns-in_default : goal.returns-in_default
 returns-in_default c = does_nothing c.args.heap.now c.args.command.now c.args.out.now.items c.requires (λ built.
     built_is c.args.command.now built c.in_default.not-NewFixed c.in_default.not-NewArray c.in_default.not-Put c.in_default.not-Get c.in_default.not-Link
-    c.in_default.not-Load c.in_default.not-MoveRoot c.in_default.not-DropRoot c.in_default.not-Same)
+    c.in_default.not-Load c.in_default.not-MoveRoot c.in_default.not-DropRoot c.in_default.not-Same c.in_default.not-Used)
