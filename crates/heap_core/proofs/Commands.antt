@@ -1,6 +1,6 @@
 -- What each call of a heap does to the stores that it stands for.
 use Rattle.std.proofs.Common.{◌≡◌, ◌≢◌, ℕ, zero, suc, ◌+◌, ◌*◌, ◌≤◌, IsTrue, List, [], ◌∷◌, length, map, replicate, Option, Some, None, refl, sym, ap, ◌∙◌, subst, inl, inr, arith, lit<}
-use Rattle.std.specs.Prelude.{slice_index, option_and_then, ◌==◌}
+use Rattle.std.specs.Prelude.{slice_index, option_and_then, IsSome, IsSomeAnd, ◌==◌}
 use Rattle.std.proofs.lemmas.Bool.{ne_eqb, eq-eqb}
 use Rattle.std.proofs.lemmas.Bool.Decides.{eqb_tells, nat_tests}
 use lib.ListN.{length-replicate}
@@ -13,21 +13,22 @@ use Rattle.type_table.specs.Table.{Table}
 use Rattle.object_view.specs.Views.{HasObject}
 use Rattle.object_view.proofs.WordLaws.{is_in-cases, is_in-nil}
 use Rattle.object_view.proofs.LayoutLaws.{laid_out}
-use Rattle.object_view.proofs.FoundLaws.{int-from, ref-from}
+use Rattle.object_view.proofs.FoundLaws.{int-from, ref-from, type-from}
 use Rattle.object_view.proofs.FrameLaws.{none_hold}
 use Rattle.store_model.specs.declared.command.Command.TheVariants.{Put, Link, Load}
+use Rattle.store_model.specs.declared.kind.Kind.{Kind}
 use Rattle.store_model.specs.declared.settings.Settings.{Settings}
 use Rattle.store_model.specs.Setup.{small_words}
 use Rattle.store_model.specs.Object.{Object}
 use Rattle.store_model.specs.Store.{Store, object_at, empty_store, kept_words, husk_words}
 use Rattle.store_model.specs.Sets.{is_in}
-use Rattle.store_model.specs.Slots.{held, put_in_slot, is_same, ints_of, refs_of, ref_in}
+use Rattle.store_model.specs.Slots.{held, object_in, put_in_slot, is_same, ints_of, refs_of, ref_in}
 use Rattle.store_model.specs.Steps.{int_at, ref_at, put_int, put_ref}
 use Rattle.store_model.specs.Checks.{AreInRange}
-use Rattle.store_model.specs.ObjectWords.{renamed, object_from}
+use Rattle.store_model.specs.ObjectWords.{renamed, object_from, type_id_at}
 use Rattle.store_model.specs.Holds.{HoldsObjects, IsPointer}
 use Rattle.heap_core.specs.Parts.{HeapParts, heap_of, started_parts, AreFresh}
-use Rattle.heap_core.specs.Told.{word_in, place_in}
+use Rattle.heap_core.specs.Told.{word_in, place_in, kind_at}
 use Rattle.heap_core.specs.StandsFor.{PartsStandFor, HoldsSlots}
 use Rattle.heap_core.specs.Effects.{with_slot, with_word_at, int_place, ref_place, layout_in, birth_read}
 use Rattle.heap_core.specs.Commands.{AreStanding, AreReady, Changes}
@@ -47,6 +48,18 @@ object-found : (heap : HeapParts) (store : Store) (root : ℕ) (s : PartsStandFo
 object-found heap store root s full =
     ap (option_and_then (object_at store.kept)) (slot-holds heap store root s)
     ∙ (object-held s.objects (place_in heap root) (slot-pointer heap.slots s.places root s.slots.pointers) ∙ rw (ne_eqb (place_in heap root) 0 full) refl)
+
+-- where a kind is told, there is an object
+pub full-of : (types : Table TypeInfo) (word : ℕ → ℕ) (place : ℕ) → IsSome (kind_at types word place) → place ≢ 0
+full-of types word place some e =
+    absurd (let none : kind_at types word place ≡ None = rw (eq-eqb place 0 e) refl in let is : IsSome {T = Kind} None = subst IsSome none some in let no : ⊥ = cc in no)
+
+-- the type id of the object in a slot
+pub type_is : (heap : HeapParts) (store : Store) (root : ℕ) → PartsStandFor heap store → place_in heap root ≢ 0
+    → IsSomeAnd (object_in store.slots store.kept root) (λ o. type_id_at (word_in heap) (place_in heap root) ≡ o.type_id)
+type_is heap store root s full =
+    subst (λ (found : Option Object). IsSomeAnd found (λ o. type_id_at (word_in heap) (place_in heap root) ≡ o.type_id)) (sym (object-found heap store root s full))
+    (sym (type-from heap.setup.types s.name (word_in heap) (place_in heap root)))
 
 -- a whole number of the object in a slot
 pub int_is : (heap : HeapParts) (store : Store) (root item : ℕ) → HasInt heap root item → PartsStandFor heap store

@@ -1,5 +1,7 @@
 -- What a heap tells of its objects: it is read from the words.
 use Rattle.std.specs.Prelude.{ℕ, ◌+◌, ◌==◌, false, if◌then◌else◌, Option, Some, None, slice_index_or}
+use Rattle.type_table.specs.declared.info.Shape.{Shape}
+use Rattle.type_table.specs.declared.info.Shape.TheVariants.{IntArray, RefArray}
 use Rattle.type_table.specs.declared.info.TypeInfo.{TypeInfo}
 use Rattle.type_table.specs.Table.{Table}
 use Rattle.heap_space.specs.Places.{word_at}
@@ -28,6 +30,15 @@ kind_from types word place = record {
 -- the same where there may be no object: its place is 0 then
 abbrev pub kind_at : Table TypeInfo → (ℕ → ℕ) → ℕ → Option Kind
 kind_at types word place = if place == 0 then None else Some (kind_from types word place)
+
+abbrev items_by : Shape → ℕ → ℕ → ℕ
+items_by IntArray ints refs = ints
+items_by RefArray ints refs = refs
+items_by shape ints refs = 0
+
+-- how many items an array has, and 0 for an object of another shape
+abbrev pub items_of : Kind → ℕ
+items_of kind = items_by kind.shape kind.ints kind.refs
 
 -- what a caller can be told of a heap
 abbrev pub told : HeapParts → Look

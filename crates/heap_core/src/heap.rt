@@ -1,12 +1,13 @@
 //! A heap: closed, started with its parts, or spent.
 ghost use Rattle.std.specs.Prelude.{◌≡◌, ◌≤◌, IsTrue, IsSome, IsSomeAnd, is_some, None, Ok, Err, OnOk, OnErr, IfErr};
 ghost use Rattle.store_model.specs.declared.command.Command.TheVariants.{Put, Get, Link, Load, MoveRoot, DropRoot, Same, Used};
-ghost use Rattle.store_model.specs.Slots.{held, put_in_slot, is_same};
+ghost use Rattle.store_model.specs.Slots.{held, object_in, put_in_slot, is_same};
 ghost use Rattle.store_model.specs.Store.{Store, empty_store, kept_words, husk_words};
 ghost use Rattle.store_model.specs.Steps.{int_at, ref_at, put_int, put_ref, array_request};
 ghost use Rattle.store_model.specs.Checks.{AreInRange};
 ghost use Rattle.heap_core.specs.declared.fault.HeapFault.TheVariants.{Spent, OutOfMemory};
 ghost use Rattle.heap_core.specs.Parts.{closed_heap};
+ghost use Rattle.heap_core.specs.Told.{items_of};
 ghost use Rattle.heap_core.specs.StandsFor.{StandsFor};
 ghost use Rattle.heap_core.specs.Commands.{OfParts, IsStanding, type_found, told_by, CanDo, CanBear, IsFresh, done_unless, fault_of, Changes, Bears};
 
@@ -157,6 +158,32 @@ impl Heap {
         ensures { IsSomeAnd ((told_by self.now).kind root) (λ kind. result ≡ kind.shape) }
     {
         self.kind_in(root).unwrap().shape
+    }
+
+    /// The items of the array in a slot, and 0 for an object of another shape.
+    pub fn len_of(&self, root: u32) -> u64
+        requires standing { IsStanding self.now }
+        requires full { IsSome ((told_by self.now).kind root) }
+        ensures { IsSomeAnd ((told_by self.now).kind root) (λ kind. result ≡ items_of kind) }
+    {
+        let kind = self.kind_in(root).unwrap();
+        match kind.shape {
+            Shape::IntArray => kind.ints,
+            Shape::RefArray => kind.refs,
+            Shape::Fixed { .. } | Shape::Weak => 0,
+        }
+    }
+
+    /// The type id of the object in a slot.
+    pub fn type_of(&self, root: u32) -> u16
+        requires standing { IsStanding self.now }
+        requires full { IsSome ((told_by self.now).kind root) }
+        ensures { (store : Store) → StandsFor self.now store → IsSomeAnd (object_in store.slots store.kept root) (λ object. result ≡ object.type_id) }
+    {
+        match &self.state {
+            State::Started(parts) => parts.type_of(root),
+            State::Closed | State::Spent => 0,
+        }
     }
 
     /// An object of a type is born for a slot, its numbers 0 and its references nil, and its line is appended. `len` is the

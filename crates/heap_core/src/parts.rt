@@ -5,6 +5,7 @@ ghost use Rattle.heap_space.specs.Places.{with_word};
 ghost use Rattle.old_space.specs.HasBlocks.{Stands};
 ghost use Rattle.object_view.specs.Views.{HasObject, HasView, view_at};
 ghost use Rattle.store_model.specs.Checks.{AreInRange};
+ghost use Rattle.store_model.specs.ObjectWords.{type_id_at};
 ghost use Rattle.heap_core.specs.Parts.{AreFresh};
 ghost use Rattle.heap_core.specs.Told.{word_in, place_in, kind_at};
 ghost use Rattle.heap_core.specs.Effects.{birth_read, HasObjectIn, HasRoom, HasYoungRoom, HasOldRoom, layout_in, int_place, ref_place, with_word_at, with_slot, with_newborn, born_young, BearsOld, TakesBlock, TakesNone, BearsOf, FitsOf};
@@ -140,6 +141,14 @@ impl Parts {
             ints: v.int_count,
             refs: v.ref_count,
         })
+    }
+
+    /// The type id of the object in a slot.
+    pub fn type_of(&self, root: u32) -> u16
+        requires { HasObjectIn self.now root }
+        ensures { result ≡ type_id_at (word_in self.now) (place_in self.now root) }
+    {
+        view(&self.space, &self.types, self.place(root)).type_id
     }
 
     /// Puts a place into a slot, or 0.
