@@ -1,5 +1,6 @@
 -- A heap that stands for a known store: which commands it can do, and what it stands for after a call.
-use Rattle.std.proofs.Common.{◌≡◌, ◌≤◌, Bool, true, false, List, Option, Some, None, option_map, sym, ap, ◌∙◌, subst}
+use Rattle.std.proofs.Common.{◌≡◌, ℕ, ◌≤◌, Bool, true, false, List, Option, Some, None, option_map, sym, ap, ◌∙◌, subst}
+use Rattle.std.specs.Prelude.{IsSome}
 use Rattle.type_table.specs.declared.info.TypeInfo.{TypeInfo}
 use Rattle.type_table.specs.Table.{Table}
 use Rattle.type_table.specs.Words.{words_in}
@@ -14,7 +15,7 @@ use Rattle.store_model.specs.Refusal.{command_checks}
 use Rattle.store_model.specs.Birth.{Request, Birth, BirthOfType, with_birth}
 use Rattle.heap_core.specs.Parts.{HeapParts, HeapSeen}
 use Rattle.heap_core.specs.StandsFor.{StandsFor, StandsForIf}
-use Rattle.heap_core.specs.Commands.{CanDo, CanDoIf, OfParts, IsFresh, Changes, Bears, setup_in}
+use Rattle.heap_core.specs.Commands.{AreStanding, IsStanding, CanDo, CanDoIf, OfParts, IsFresh, Changes, Bears, setup_in, told_if, told_by}
 use Rattle.heap_core.proofs.ToldLaws.{look-told}
 
 -- the heap was started with these settings and types, and stands for the store
@@ -83,3 +84,19 @@ runs_born setup info old new store request before after known few gapped runs be
       stands = subst (λ (s : Store). StandsFor new s)
           (leaves setup info old.parts store later.0 request bears.lines runs.setup_is known few gapped later.1) later.2;
     }
+
+told_here : (spent : Bool) (parts : Option HeapParts) (setup : Setup) (store : Store) → option_map (λ (p : HeapParts). p.setup) parts ≡ Some setup
+    → StandsForIf spent parts store → OfParts parts AreStanding × (look store ≡ told_if parts)
+told_here true parts setup store is stands = absurd stands
+told_here false None setup store is stands = absurd (let no : ⊥ = cc in no)
+told_here false (Some parts) setup store is stands = (record { store = store; stands = stands }, look-told parts store stands)
+
+-- it stands for some store
+pub standing : (setup : Setup) (heap : HeapSeen) (store : Store) → Runs setup heap store → IsStanding heap
+standing setup heap store runs = (told_here heap.is_spent heap.parts setup store runs.setup_is runs.stands).0
+
+-- what a slot of the store holds is told
+pub full : (setup : Setup) (heap : HeapSeen) (store : Store) (root : ℕ) → Runs setup heap store → IsSome ((look store).kind root)
+    → IsSome ((told_by heap).kind root)
+full setup heap store root runs some =
+    subst (λ (seen : Look). IsSome (seen.kind root)) (told_here heap.is_spent heap.parts setup store runs.setup_is runs.stands).1 some

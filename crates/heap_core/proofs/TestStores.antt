@@ -1,9 +1,10 @@
 -- The stores that the heap of a test stands for, one behind each call, and what the heap can do then.
 use Rattle.std.proofs.Common.{◌≡◌, ℕ, zero, suc, false, List, [], ◌∷◌, refl, subst, inr, arith}
+use Rattle.std.specs.Prelude.{IsSome}
 use Rattle.type_table.specs.declared.info.TypeInfo.{TypeInfo}
 use Rattle.type_table.specs.declared.info.Shape.TheVariants.{Fixed}
 use Rattle.type_table.specs.Table.{Table}
-use Rattle.store_model.specs.declared.command.Command.TheVariants.{NewFixed, Put, Get, Link, Load}
+use Rattle.store_model.specs.declared.command.Command.TheVariants.{NewFixed, Put, Get, Link, Load, Used}
 use Rattle.store_model.specs.declared.line.Line.{Line}
 use Rattle.store_model.specs.Range.{is_above}
 use Rattle.store_model.specs.Setup.{Setup, defaults}
@@ -13,8 +14,8 @@ use Rattle.store_model.specs.Birth.{with_birth}
 use Rattle.store_model.specs.Steps.{array_request, put_int, put_ref}
 use Rattle.heap_core.specs.Parts.{HeapSeen}
 use Rattle.heap_core.specs.StandsFor.{StandsFor}
-use Rattle.heap_core.specs.Commands.{CanDo, CanBear, IsFresh, Bears, Changes}
-use Rattle.heap_core.proofs.Runs.{Runs, can_do, runs_started, runs_born, runs_changed}
+use Rattle.heap_core.specs.Commands.{IsStanding, CanDo, CanBear, IsFresh, Bears, Changes, told_by}
+use Rattle.heap_core.proofs.Runs.{Runs, can_do, standing, full, runs_started, runs_born, runs_changed}
 
 -- one whole number and one reference
 abbrev pub pair : TypeInfo
@@ -82,6 +83,13 @@ pub can_get : (heap : HeapSeen) → Runs pairs heap relinked → CanDo heap (Get
 unfolding is_above
 can_get heap runs = can_do pairs heap relinked (Get 0 0) runs refl
 
+pub can_use : (heap : HeapSeen) → Runs pairs heap relinked → CanDo heap Used
+unfolding is_above
+can_use heap runs = can_do pairs heap relinked Used runs refl
+
+pub can_tell : (heap : HeapSeen) → Runs pairs heap relinked → IsStanding heap × IsSome ((told_by heap).kind 0)
+can_tell heap runs = (standing pairs heap relinked runs, full pairs heap relinked 0 runs refl)
+
 pub can_load : (heap : HeapSeen) → Runs pairs heap relinked → CanDo heap (Load 3 0 0)
 unfolding is_above
 can_load heap runs = can_do pairs heap relinked (Load 3 0 0) runs refl
@@ -94,3 +102,18 @@ writes old new runs changes = runs_changed pairs old new linked (λ (store : Sto
 
 pub relinks : (old new : HeapSeen) → Runs pairs old numbered → Changes old new (λ store. put_ref store 0 0 (held store.slots 2)) → Runs pairs new relinked
 relinks old new runs changes = runs_changed pairs old new numbered (λ (store : Store). put_ref store 0 0 (held store.slots 2)) runs changes
+
+-- behind all calls that change the heap
+pub after_all : {types : Table TypeInfo} {h0 h1 h2 h3 h4 h5 h6 : HeapSeen} {a b c d e f : List Line} → types ≡ (1, pair) ∷ []
+    → IsFresh h0 defaults types → StandsFor h0 (empty_store defaults)
+    → Bears h0 h1 (array_request 0 1 0) a b → Bears h1 h2 (array_request 1 1 0) c d → Bears h2 h3 (array_request 2 1 0) e f
+    → Changes h3 h4 (λ store. put_ref store 0 0 (held store.slots 1)) → Changes h4 h5 (λ store. put_int store 0 0 77)
+    → Changes h5 h6 (λ store. put_ref store 0 0 (held store.slots 2)) → Runs pairs h6 relinked
+after_all {types = types} {h0 = h0} {h1 = h1} {h2 = h2} {h3 = h3} {h4 = h4} {h5 = h5} {h6 = h6} {a = a} {b = b} {c = c} {d = d} {e = e} {f = f} is fresh empty one two three link write relink =
+    let r0 = started types h0 is fresh empty in
+    let r1 = bears_next 0 h0 h1 a b r0 one in
+    let r2 = bears_next 1 h1 h2 c d r1 two in
+    let r3 = bears_next 2 h2 h3 e f r2 three in
+    let r4 = links h3 h4 r3 link in
+    let r5 = writes h4 h5 r4 write in
+    relinks h5 h6 r5 relink

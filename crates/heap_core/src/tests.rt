@@ -43,6 +43,10 @@ fn words_are_the_heap(rt: HostRuntime) -> Result<(), Fail> {
     assert_eq!(rt; heap.word(4), Some(9));
     let number = heap.get(0, 0)?;
     assert_eq!(rt; number, 77);
+    assert_eq!(rt; heap.type_of(0), 1);
+    assert_eq!(rt; heap.len_of(0), 0);
+    let words = heap.used()?;
+    assert_eq!(rt; words, (12, 0));
     let birth = heap.load(3, 0, 0)?;
     assert_eq!(rt; birth, Some(3));
     Ok(())

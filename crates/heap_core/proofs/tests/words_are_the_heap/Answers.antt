@@ -1,4 +1,4 @@
-use Rattle.heap_core.proofs.TestStores.{started, bears_next, links, writes, relinks, can_first, can_second, can_third, can_link, can_write, can_relink, can_get, can_load}
+use Rattle.heap_core.proofs.TestStores.{started, bears_next, links, writes, relinks, can_first, can_second, can_third, can_link, can_write, can_relink, can_get, can_use, can_tell, can_load, after_all}
 use Rattle.heap_core.proofs.tests.words_are_the_heap.Goals as goal
 
 pub new_object-requires : goal.new_object-requires
@@ -48,22 +48,42 @@ write_ref-requires g c =
 
 pub get-requires : goal.get-requires
 get-requires g c =
-    let r0 = started c.in_ok-types.types c.start.new.self c.in_ok-types.ensures c.in_ok-start.ensures.started c.in_ok-start.ensures.empty in
-    let r1 = bears_next 0 c.start.new.self c.new_object.new.self _ _ r0 c.in_ok-new_object.ensures.born in
-    let r2 = bears_next 1 c.new_object.new.self c.new_object-2.new.self _ _ r1 c.in_ok-new_object-2.ensures.born in
-    let r3 = bears_next 2 c.new_object-2.new.self c.new_object-3.new.self _ _ r2 c.in_ok-new_object-3.ensures.born in
-    let r4 = links c.new_object-3.new.self c.link.new.self r3 c.link.ensures.changes in
-    let r5 = writes c.link.new.self c.write_int.new.heap r4 c.write_int.ensures.changes in
-    let r6 = relinks c.write_int.new.heap c.write_ref.new.heap r5 c.write_ref.ensures.changes in
-    can_get c.write_ref.new.heap r6
+    let runs = after_all c.in_ok-types.ensures c.in_ok-start.ensures.started c.in_ok-start.ensures.empty c.in_ok-new_object.ensures.born
+    c.in_ok-new_object-2.ensures.born c.in_ok-new_object-3.ensures.born c.link.ensures.changes c.write_int.ensures.changes c.write_ref.ensures.changes in
+    can_get c.write_ref.new.heap runs
+
+pub type_of-requires-clause-standing : goal.type_of-requires-clause-standing
+type_of-requires-clause-standing g c =
+    let runs = after_all c.in_ok-types.ensures c.in_ok-start.ensures.started c.in_ok-start.ensures.empty c.in_ok-new_object.ensures.born
+    c.in_ok-new_object-2.ensures.born c.in_ok-new_object-3.ensures.born c.link.ensures.changes c.write_int.ensures.changes c.write_ref.ensures.changes in
+    (can_tell c.write_ref.new.heap runs).0
+
+pub type_of-requires-clause-full : goal.type_of-requires-clause-full
+type_of-requires-clause-full g c =
+    let runs = after_all c.in_ok-types.ensures c.in_ok-start.ensures.started c.in_ok-start.ensures.empty c.in_ok-new_object.ensures.born
+    c.in_ok-new_object-2.ensures.born c.in_ok-new_object-3.ensures.born c.link.ensures.changes c.write_int.ensures.changes c.write_ref.ensures.changes in
+    (can_tell c.write_ref.new.heap runs).1
+
+pub len_of-requires-clause-standing : goal.len_of-requires-clause-standing
+len_of-requires-clause-standing g c =
+    let runs = after_all c.in_ok-types.ensures c.in_ok-start.ensures.started c.in_ok-start.ensures.empty c.in_ok-new_object.ensures.born
+    c.in_ok-new_object-2.ensures.born c.in_ok-new_object-3.ensures.born c.link.ensures.changes c.write_int.ensures.changes c.write_ref.ensures.changes in
+    (can_tell c.write_ref.new.heap runs).0
+
+pub len_of-requires-clause-full : goal.len_of-requires-clause-full
+len_of-requires-clause-full g c =
+    let runs = after_all c.in_ok-types.ensures c.in_ok-start.ensures.started c.in_ok-start.ensures.empty c.in_ok-new_object.ensures.born
+    c.in_ok-new_object-2.ensures.born c.in_ok-new_object-3.ensures.born c.link.ensures.changes c.write_int.ensures.changes c.write_ref.ensures.changes in
+    (can_tell c.write_ref.new.heap runs).1
+
+pub used-requires : goal.used-requires
+used-requires g c =
+    let runs = after_all c.in_ok-types.ensures c.in_ok-start.ensures.started c.in_ok-start.ensures.empty c.in_ok-new_object.ensures.born
+    c.in_ok-new_object-2.ensures.born c.in_ok-new_object-3.ensures.born c.link.ensures.changes c.write_int.ensures.changes c.write_ref.ensures.changes in
+    can_use c.write_ref.new.heap runs
 
 pub load-requires : goal.load-requires
 load-requires g c =
-    let r0 = started c.in_ok-types.types c.start.new.self c.in_ok-types.ensures c.in_ok-start.ensures.started c.in_ok-start.ensures.empty in
-    let r1 = bears_next 0 c.start.new.self c.new_object.new.self _ _ r0 c.in_ok-new_object.ensures.born in
-    let r2 = bears_next 1 c.new_object.new.self c.new_object-2.new.self _ _ r1 c.in_ok-new_object-2.ensures.born in
-    let r3 = bears_next 2 c.new_object-2.new.self c.new_object-3.new.self _ _ r2 c.in_ok-new_object-3.ensures.born in
-    let r4 = links c.new_object-3.new.self c.link.new.self r3 c.link.ensures.changes in
-    let r5 = writes c.link.new.self c.write_int.new.heap r4 c.write_int.ensures.changes in
-    let r6 = relinks c.write_int.new.heap c.write_ref.new.heap r5 c.write_ref.ensures.changes in
-    can_load c.write_ref.new.heap r6
+    let runs = after_all c.in_ok-types.ensures c.in_ok-start.ensures.started c.in_ok-start.ensures.empty c.in_ok-new_object.ensures.born
+    c.in_ok-new_object-2.ensures.born c.in_ok-new_object-3.ensures.born c.link.ensures.changes c.write_int.ensures.changes c.write_ref.ensures.changes in
+    can_load c.write_ref.new.heap runs
