@@ -19,6 +19,7 @@ pub mod BeginLaws
 pub mod ChoiceLaws
 pub mod FrameLaws
 pub mod OrderLaws
+pub mod ObjectLaws
 pub mod WaitLaws
 pub mod TimesLaws
 pub mod UsedLaws
