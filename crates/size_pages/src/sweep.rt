@@ -23,8 +23,7 @@ impl Pages {
         load(space, self.page_of(a) + 6) == WAITING
     }
 
-    /// Every page in use waits from then on. It takes no memory, and its time is that of the pages in
-    /// use and of the classes, however many pages are unused.
+    /// Every page in use waits from then on. It takes no memory, and looks at no unused page.
     pub fn begin_sweep(&mut self, space: &mut Space)
         requires { NoneWaits self.old space.old }
         ensures begun { (live : List Extent) → HasBlocks self.old space.old live [] → BeginsSweep self.new space.new live }
