@@ -1,7 +1,6 @@
 -- A sweep begins.
-use Rattle.std.proofs.Common.{◌≡◌, ℕ, ◌+◌, ◌<◌, ◌≤◌, true, false, nat_lt, List, [], ◌∷◌, ◌++◌, length-append, refl, sym, ◌∙◌, arith, subst}
+use Rattle.std.proofs.Common.{◌≡◌, ℕ, ◌+◌, ◌<◌, ◌≤◌, List, [], ◌∷◌, ◌++◌, length-append, refl, sym, ◌∙◌, arith, subst}
 use Rattle.std.specs.List.{Contains}
-use Rattle.std.proofs.lemmas.Bool.Decides.{nat_tests}
 use Rattle.std.proofs.lemmas.List.Elements.{Contains-append_left, Contains-append_right}
 use Rattle.heap_space.specs.Memory.{Memory}
 use Rattle.heap_space.specs.Extents.{Extent, Each, KeepsOutside, KeepsWords}
@@ -26,7 +25,8 @@ use Rattle.old_space.proofs.JoinLaws.{larges-above}
 use Rattle.old_space.proofs.GiveLaws.{outside-arenas}
 use Rattle.old_space.proofs.CallLaws.{kept-small}
 use Rattle.old_space.proofs.Narrow.{outside-pages}
-use Rattle.old_space.proofs.WaitLaws.{contains-in}
+use Rattle.old_space.proofs.WaitLaws.{contains-in, unit-page, unit-large}
+use Rattle.old_space.proofs.UnitLaws.{only-live}
 
 -- neither part has a unit that waits
 
@@ -62,12 +62,6 @@ larges-ready old m now n arenas = record {
 told : (xs ys : List Extent) → ((a : ℕ) → Contains (places_of ys) a → Contains (places_of xs) a) → Each (λ x. Contains (places_of xs) x.0) ys
 told xs [] f = tt
 told xs (y ∷ ys) f = (f y.0 (0, omega arith, refl), told xs ys (λ a h. f a (Contains-append_right (y.0 ∷ []) (places_of ys) a h)))
-
-unit-page : (old : Old) (a : ℕ) → a < 1099511627776 → unit_of old a ≡ page_of old.pages.page a
-unit-page old a low = let is : nat_lt a 1099511627776 ≡ true = grind (arith, nat_tests) in rw is refl
-
-unit-large : (old : Old) (a : ℕ) → 1099511627776 ≤ a → unit_of old a ≡ a
-unit-large old a high = let is : nat_lt a 1099511627776 ≡ false = grind (arith, nat_tests) in rw is refl
 
 -- a block of a page has a word below the large ones
 small-place : (x : Extent) → x.0 + x.1 ≤ 1099511627776 → 2 ≤ x.1 → x.0 < 1099511627776
@@ -112,6 +106,7 @@ begun old p l m now live pages_begin arenas size larges_begin h =
           h.large
           (Each-same (λ x. Contains blocks x.0) (larges_of now) h.large same (told (larges_of now) (larges_of now) (λ a c. c)))
           (larges-above l now h.large blocks second)));
+      only = only-live new now h.small h.large live first second.same (larges-above l now h.large blocks second) h.same;
       most = omega (
         arith,
         first.most,

@@ -6,6 +6,7 @@ pub mod TakeLaws
 pub mod ElsewhereLaws
 pub mod GiveLaws
 pub mod WaitLaws
+pub mod UnitLaws
 pub mod BeginLaws
 pub mod ListLaws
 pub mod SweepLaws

@@ -22,12 +22,20 @@ use Rattle.old_space.proofs.PartLaws.{waiting-below}
 use Rattle.old_space.proofs.JoinLaws.{HasBlocks-first}
 use Rattle.old_space.proofs.GiveLaws.{live-small, live-large}
 
+-- the unit of a block
+
+pub unit-page : (old : Old) (a : ℕ) → a < 1099511627776 → unit_of old a ≡ page_of old.pages.page a
+unit-page old a low = let is : nat_lt a 1099511627776 ≡ true = grind (arith, nat_tests) in rw is refl
+
+pub unit-large : (old : Old) (a : ℕ) → 1099511627776 ≤ a → unit_of old a ≡ a
+unit-large old a high = let is : nat_lt a 1099511627776 ≡ false = grind (arith, nat_tests) in rw is refl
+
 -- membership, in the words of the parts and of std
 
-contains-first : (x : ℕ) (xs : List ℕ) → Contains (x ∷ xs) x
+pub contains-first : (x : ℕ) (xs : List ℕ) → Contains (x ∷ xs) x
 contains-first x xs = (0, omega arith, refl)
 
-contains-later : (y x : ℕ) (xs : List ℕ) → Contains xs x → Contains (y ∷ xs) x
+pub contains-later : (y x : ℕ) (xs : List ℕ) → Contains xs x → Contains (y ∷ xs) x
 contains-later y x xs h = Contains-append_right (y ∷ []) xs x h
 
 pub contains-in : (x : ℕ) (xs : List ℕ) → IsIn x xs → Contains xs x

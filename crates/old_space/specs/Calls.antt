@@ -1,5 +1,5 @@
 -- What the calls promise beside the live blocks and the waiting units.
-use Rattle.std.specs.Prelude.{◌≡◌, ℕ, ◌*◌, ◌<◌, ◌≤◌, nat_lt, if◌then◌else◌, List, [], length, Contains}
+use Rattle.std.specs.Prelude.{◌≡◌, ℕ, ◌*◌, ◌<◌, ◌≤◌, nat_lt, if◌then◌else◌, List, [], length, map, All, Contains}
 use Rattle.heap_space.specs.Memory.{Memory, without_large}
 use Rattle.heap_space.specs.Extents.{Extent, Each}
 use Rattle.size_pages.specs.Calls.{page_of, ChangesAround}
@@ -36,6 +36,10 @@ still_waiting a waiting = if nat_lt a 1099511627776 then waiting else without_pl
 abbrev pub unit_of : Old → ℕ → ℕ
 unit_of old a = if nat_lt a 1099511627776 then page_of old.pages.page a else a
 
+-- the units of the blocks
+abbrev pub units_of : Old → List Extent → List ℕ
+units_of old live = map (λ x. unit_of old x.0) live
+
 -- the unit of the block at a does not wait
 abbrev pub IsElsewhere : Old → List ℕ → ℕ → Type 0
 IsElsewhere old waiting a = ¬ (Contains waiting (unit_of old a))
@@ -56,9 +60,10 @@ pub record NoneWaits (old : Old) (m : Memory) : Type 0 where
   pub live : List Extent
   pub blocks : HasBlocks old m live []
 
--- a sweep begins: the units of all live blocks wait, and these are at most as many as the blocks
+-- a sweep begins: the units of all live blocks wait, and no others, and these are at most as many as the blocks
 pub record BeginsSweep (old : Old) (m : Memory) (live : List Extent) : Type 0 where
   pub waiting : List ℕ
   pub blocks : HasBlocks old m live waiting
   pub every : Each (λ x. Contains waiting (unit_of old x.0)) live
+  pub only : All (Contains (units_of old live)) waiting
   pub most : length waiting ≤ length live

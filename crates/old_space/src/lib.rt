@@ -95,7 +95,7 @@ impl Old {
         }
     }
 
-    /// The unit of each live block waits from then on. It takes no memory.
+    /// The unit of each live block waits from then on, and no other. It takes no memory.
     pub fn begin_sweep(&mut self, space: &mut Space)
         requires { NoneWaits self.old space.old }
         ensures stands { Stands self.new space.new }

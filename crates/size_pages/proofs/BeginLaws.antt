@@ -1,5 +1,5 @@
 -- A page is begun: it is the lowest unused one, in a new arena where none is unused.
-use Rattle.std.proofs.Common.{◌≡◌, ℕ, ◌+◌, ◌*◌, ◌<◌, ◌≤◌, inl, inr, List, length, arith, sym, ◌∙◌, ap, subst}
+use Rattle.std.proofs.Common.{◌≡◌, ℕ, ◌+◌, ◌*◌, ◌^◌, ◌<◌, ◌≤◌, inl, inr, List, length, vec_capacity, arith, sym, ◌∙◌, ap, subst}
 use Rattle.std.proofs.lemmas.Bool.{cases_lt}
 use Rattle.heap_space.specs.Memory.{Memory, with_arena}
 use Rattle.heap_space.specs.Order.{IsInOrder}
@@ -10,10 +10,11 @@ use Rattle.size_pages.specs.LiveBlocks.{page_at}
 use Rattle.size_pages.specs.PageLists.{IsPage, SameSigns, Unlinks}
 use Rattle.size_pages.specs.HasBlocks.{HasBlocksBut, HasBlocks, Stands, KeepsSizes}
 use Rattle.size_pages.specs.Steps.{IsOnlyHeads, CanTakeOff, CanStart, CanTakeUnlisted}
-use Rattle.size_pages.specs.Growth.{AllUsed, HasUnused, IsRaised, IsLowestUnused, IsOnlyCounts, CanList, ListsPages, AddsPages, BeginsPage}
+use Rattle.size_pages.specs.Growth.{AllUsed, HasUnused, IsRaised, IsLowestUnused, IsOnlyCounts, IsOnlyOrder, CanList, ListsPages, AddsPages, BeginsPage}
 use Rattle.size_pages.specs.declared.Pages.{Pages}
 use Rattle.size_pages.proofs.FitLaws.{pages_part}
 use Rattle.size_pages.proofs.FitsLaws.{page_mono, header_has, places_of, below_of}
+use Rattle.size_pages.proofs.EndLaws.{order_fits}
 use Rattle.size_pages.proofs.ArenaLaws.{all_after}
 use Rattle.size_pages.proofs.KeepLaws.{keeps_then, keeps_same, off_keeps, started_keeps}
 use Rattle.size_pages.proofs.StartLaws.{unused_off, started_fits, can_take_started}
@@ -66,58 +67,91 @@ base_of : (pages : Pages) (m : Memory) (live : List Extent) (waiting : List ℕ)
 base_of pages m live waiting f = let end : m.next_arena ≡ page_at pages.page (pages.count + 0) = f.end in omega arith
 
 -- its pages are unused
-new_unused : (pages : Pages) (m : Memory) → IsInOrder m → IsInOrder (with_arena m) → (live : List Extent) (waiting : List ℕ) → HasBlocks pages m live waiting → (k : ℕ) → pages.count ≤ k → k < pages.count + pages.pages_per_arena → word_in (with_arena m) (page_at pages.page k) ≡ 0
-new_unused pages m o n live waiting f k low high =
+new_unused : (pages : Pages) (m : Memory) → IsInOrder m → IsInOrder (with_arena m) → pages.count + pages.pages_per_arena ≤ vec_capacity pages.order → (live : List Extent) (waiting : List ℕ) → HasBlocks pages m live waiting → (k : ℕ) → pages.count ≤ k → k < pages.count + pages.pages_per_arena → word_in (with_arena m) (page_at pages.page k) ≡ 0
+new_unused pages m o n room live waiting f k low high =
     let size = pages.page in
     let wide : 64 ≤ size = f.blocks.size_low in
-    let g = arena_fits pages m o n live waiting f in
+    let g = arena_fits pages m o n room live waiting f in
     let end : m.next_arena ≡ page_at size (pages.count + 0) = f.end in
     let base : page_at size (pages.count + 0) ≤ page_at size k = page_mono size (pages.count + 0) k (omega arith) in
     let part : page_at size k + size ≤ page_at size (pages.count + pages.pages_per_arena) = pages_part size k (pages.count + pages.pages_per_arena) high in
     let top : page_at size (pages.count + pages.pages_per_arena) ≤ 1099511627776 = g.below in
     arena_words_same m o n (page_at size k) ∙ word_at-none m.blocks (page_at size k) (o.free (page_at size k) (omega arith) (omega arith))
 
-pub arena_can_list : (pages : Pages) (m m1 : Memory) → Stands pages m → 2 * pages.small + 2 ≤ length pages.heads.items → IsInOrder m → IsInOrder m1 → m1 ≡ with_arena m → CanList pages m1 pages.pages_per_arena
-arena_can_list pages m m1 st long o n e =
+pub arena_can_list : (pages : Pages) (m m1 : Memory) → Stands pages m → pages.count + pages.pages_per_arena ≤ vec_capacity pages.order → 2 * pages.small + 2 ≤ length pages.heads.items → IsInOrder m → IsInOrder m1 → m1 ≡ with_arena m → CanList pages m1 pages.pages_per_arena
+arena_can_list pages m m1 st room long o n e =
     let n1 : IsInOrder (with_arena m) = subst IsInOrder e n in
     let P : Memory → Type 0 = λ k. CanList pages k pages.pages_per_arena in
     subst P (sym e) (record {
       live = st.live;
       waiting = st.waiting;
       spare = pages.pages_per_arena;
-      fits = arena_fits pages m o n1 st.live st.waiting st.fits;
+      fits = arena_fits pages m o n1 room st.live st.waiting st.fits;
       enough = omega arith;
-      unused = new_unused pages m o n1 st.live st.waiting st.fits;
+      unused = new_unused pages m o n1 room st.live st.waiting st.fits;
       heads = long;
     })
 
-arena_spare : (pages : Pages) (m : Memory) → IsInOrder m → IsInOrder (with_arena m) → (live : List Extent) (waiting : List ℕ) → HasBlocks pages m live waiting → HasBlocksBut pages (with_arena m) live waiting 0 (0 + pages.pages_per_arena)
-arena_spare pages m o n live waiting f = subst (λ (k : ℕ). HasBlocksBut pages (with_arena m) live waiting 0 k) (let e : pages.pages_per_arena ≡ 0 + pages.pages_per_arena = omega arith in e) (arena_fits pages m o n live waiting f)
+arena_spare : (pages : Pages) (m : Memory) → IsInOrder m → IsInOrder (with_arena m) → pages.count + pages.pages_per_arena ≤ vec_capacity pages.order → (live : List Extent) (waiting : List ℕ) → HasBlocks pages m live waiting → HasBlocksBut pages (with_arena m) live waiting 0 (0 + pages.pages_per_arena)
+arena_spare pages m o n room live waiting f = subst (λ (k : ℕ). HasBlocksBut pages (with_arena m) live waiting 0 k) (let e : pages.pages_per_arena ≡ 0 + pages.pages_per_arena = omega arith in e) (arena_fits pages m o n room live waiting f)
 
-adds_pages : (pages after : Pages) (m new : Memory) → Stands pages m → IsInOrder m → IsInOrder (with_arena m) → ListsPages pages after (with_arena m) new pages.pages_per_arena → AddsPages pages after m new
-adds_pages pages after m new st o n l =
+adds_pages : (pages after : Pages) (m new : Memory) → Stands pages m → pages.count + pages.pages_per_arena ≤ vec_capacity pages.order → IsInOrder m → IsInOrder (with_arena m) → ListsPages pages after (with_arena m) new pages.pages_per_arena → AddsPages pages after m new
+adds_pages pages after m new st room o n l =
     let same = arena_words_same m o n in
     let some : 1 ≤ pages.pages_per_arena = st.fits.arena_low in
     let count : after.count ≡ pages.count + pages.pages_per_arena = l.count in
     record {
       sizes = l.sizes;
       room = l.room;
-      added = λ live waiting f. l.listed live waiting 0 (arena_spare pages m o n live waiting f);
-      kept = λ live waiting f. keeps_then m (with_arena m) new live (keeps_same m (with_arena m) live same) (l.kept live waiting 0 (arena_spare pages m o n live waiting f));
+      added = λ live waiting f. l.listed live waiting 0 (arena_spare pages m o n room live waiting f);
+      kept = λ live waiting f. keeps_then m (with_arena m) new live (keeps_same m (with_arena m) live same) (l.kept live waiting 0 (arena_spare pages m o n room live waiting f));
       next = l.arenas.next_arena;
       size = l.arenas.arena_words;
       large = l.arenas.next_large;
       more = omega arith;
-      unused = l.classes pages.count ∙ new_unused pages m o n st.live st.waiting st.fits pages.count (omega arith) (omega arith);
+      unused = l.classes pages.count ∙ new_unused pages m o n room st.live st.waiting st.fits pages.count (omega arith) (omega arith);
       classes = λ k. l.classes k ∙ same (page_at pages.page k);
       outside = outside_then m (with_arena m) new (arena_outside m (base_of pages m st.live st.waiting st.fits) o n) (arenas_outside (with_arena m) new l.arenas);
     }
 
-pub arena_adds : (pages after : Pages) (m m1 new : Memory) → Stands pages m → IsInOrder m → IsInOrder m1 → m1 ≡ with_arena m → ListsPages pages after m1 new pages.pages_per_arena → AddsPages pages after m new
-arena_adds pages after m m1 new st o n e l =
+pub arena_adds : (pages after : Pages) (m m1 new : Memory) → Stands pages m → pages.count + pages.pages_per_arena ≤ vec_capacity pages.order → IsInOrder m → IsInOrder m1 → m1 ≡ with_arena m → ListsPages pages after m1 new pages.pages_per_arena → AddsPages pages after m new
+arena_adds pages after m m1 new st room o n e l =
     let n1 : IsInOrder (with_arena m) = subst IsInOrder e n in
     let P : Memory → Type 0 = λ k. ListsPages pages after k new pages.pages_per_arena in
-    adds_pages pages after m new st o n1 (subst P e l)
+    adds_pages pages after m new st room o n1 (subst P e l)
+
+sizes_joined : (a b c : Pages) → KeepsSizes a b → KeepsSizes b c → KeepsSizes a c
+sizes_joined a b c h g = record { page = g.page ∙ h.page; pages_per_arena = g.pages_per_arena ∙ h.pages_per_arena; small = g.small ∙ h.small }
+
+-- after room was made for the places of the new pages
+
+pub stands_grown : (pages grown : Pages) (m : Memory) → IsOnlyOrder pages grown → Stands pages m → Stands grown m
+stands_grown pages grown m o st = record { live = st.live; waiting = st.waiting; fits = order_fits pages grown m st.live st.waiting 0 0 o st.fits }
+
+pub few_pages : (pages : Pages) (m : Memory) → Stands pages m → pages.count + pages.pages_per_arena < 2 ^ 62
+few_pages pages m st =
+    let wide : 64 ≤ pages.page = st.fits.blocks.size_low in
+    let below : page_at pages.page pages.count ≤ 1099511627776 = below_of st.fits in
+    let up : pages.count * 64 ≤ pages.count * pages.page = grind arith in
+    let per : pages.pages_per_arena ≤ 1024 = st.fits.arena_high in omega arith
+
+pub adds_grown : (pages grown after : Pages) (m new : Memory) → IsOnlyOrder pages grown → AddsPages grown after m new → AddsPages pages after m new
+adds_grown pages grown after m new o a =
+    let count : grown.count ≡ pages.count = o.count in
+    let room : length after.heads.items ≡ length grown.heads.items = a.room in
+    record {
+      sizes = sizes_joined pages grown after o.sizes a.sizes;
+      room = room ∙ ap (λ (v : List ℕ). length v) o.heads;
+      added = λ live waiting f. a.added live waiting (order_fits pages grown m live waiting 0 0 o f);
+      kept = λ live waiting f. a.kept live waiting (order_fits pages grown m live waiting 0 0 o f);
+      next = a.next;
+      size = a.size;
+      large = a.large;
+      more = let more : grown.count < after.count = a.more in omega arith;
+      unused = subst (λ (s : ℕ). word_in new (page_at s pages.count) ≡ 0) o.sizes.page (subst (λ (k : ℕ). word_in new (page_at grown.page k) ≡ 0) count a.unused);
+      classes = λ k. subst (λ (s : ℕ). word_in new (page_at s k) ≡ word_in m (page_at s k)) o.sizes.page (a.classes k);
+      outside = a.outside;
+    }
 
 pub stands_added : (pages after : Pages) (m new : Memory) → Stands pages m → AddsPages pages after m new → Stands after new
 stands_added pages after m new st a = record { live = st.live; waiting = st.waiting; fits = a.added st.live st.waiting st.fits }
@@ -125,9 +159,6 @@ stands_added pages after m new st a = record { live = st.live; waiting = st.wait
 pub unused_added : (pages after : Pages) (m new : Memory) → AddsPages pages after m new → HasUnused (word_in new) after.page after.count
 unused_added pages after m new a =
     subst (λ (size : ℕ). HasUnused (word_in new) size after.count) (sym a.sizes.page) (record { number = pages.count; below = a.more; unused = a.unused })
-
-sizes_joined : (a b c : Pages) → KeepsSizes a b → KeepsSizes b c → KeepsSizes a c
-sizes_joined a b c h g = record { page = g.page ∙ h.page; pages_per_arena = g.pages_per_arena ∙ h.pages_per_arena; small = g.small ∙ h.small }
 
 pub some_words : (pages : Pages) (m : Memory) → Stands pages m → 0 < m.arena_words
 some_words pages m st =

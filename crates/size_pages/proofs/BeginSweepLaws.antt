@@ -1,5 +1,5 @@
 -- A sweep begins: each page with live blocks waits.
-use Rattle.std.proofs.Common.{◌≡◌, ◌≢◌, ℕ, ◌+◌, ◌*◌, ◌<◌, ◌≤◌, inl, inr, Bool, true, false, cond, ◌==◌, nat_le, if◌then◌else◌, List, [], ◌∷◌, length, arith, refl, sym, ◌∙◌, ap, subst}
+use Rattle.std.proofs.Common.{◌≡◌, ◌≢◌, ℕ, ◌+◌, ◌*◌, ◌<◌, ◌≤◌, inl, inr, Bool, true, false, cond, nat_le, List, [], ◌∷◌, ◌++◌, length, append-nil, append_assoc, arith, refl, sym, ◌∙◌, ap, subst}
 use Rattle.std.proofs.lemmas.Bool.{cases_lt}
 use Rattle.std.proofs.lemmas.Bool.Decides.{eqb_tells, nat_tests}
 use Rattle.std.specs.List.{filter}
@@ -12,111 +12,128 @@ use Rattle.size_pages.specs.PageLists.{EachPlace, IsIn, IsPage, IsListedRightly}
 use Rattle.size_pages.specs.HasBlocks.{HasBlocks, IsRising, KeepsSizes}
 use Rattle.size_pages.specs.Calls.{page_of, NoneWaits, HasLive, BeginsSweep}
 use Rattle.size_pages.specs.SweepSteps.{CanWait, WaitsMore}
+use Rattle.size_pages.specs.Growth.{IsOnlyOrder}
+use Rattle.size_pages.specs.Gathering.{IsUsed, IsOrder}
 use Rattle.size_pages.specs.declared.Pages.{Pages}
 use Rattle.size_pages.proofs.FitLaws.{pages_part, in_page_true}
-use Rattle.size_pages.proofs.ListLaws.{places_map, places_both}
+use Rattle.size_pages.proofs.ListLaws.{places_map, places_both, places_at}
 use Rattle.size_pages.proofs.FitsLaws.{page_mono}
 use Rattle.size_pages.proofs.GiveLaws.{page_number}
 use Rattle.size_pages.proofs.KeepLaws.{keeps_then, keeps_same}
 use Rattle.size_pages.proofs.ArenaLaws.{arenas_then, arenas_same}
+use Rattle.size_pages.proofs.EndLaws.{order_fits}
 use Rattle.size_pages.proofs.WaitLaws.{waits_exactly}
+use Rattle.size_pages.proofs.TimesLaws.{each_from}
 
--- the pages from number k on that are in use wait
-pub record WaitsFrom (old new : Pages) (m after : Memory) (k : ℕ) : Type 0 where
+-- the pages of `order` are in use, and do not wait yet: all above them that are in use do
+pub record WaitsBut (old new : Pages) (m after : Memory) (order : List ℕ) : Type 0 where
   pub waiting : List ℕ
+  pub all : IsOrder old m (order ++ waiting)
   pub fits : (live : List Extent) → HasBlocks old m live [] → HasBlocks new after live waiting
-  pub above : EachPlace (λ q. page_at old.page k ≤ q) waiting
-  pub waits : (j : ℕ) → k ≤ j → j < old.count → word_in m (page_at old.page j) ≢ 0 → IsIn (page_at old.page j) waiting
-  pub used : EachPlace (λ q. word_in m q ≢ 0) waiting
-  pub later : (j : ℕ) → j < k → word_in after (page_at old.page j + 6) ≡ word_in m (page_at old.page j + 6)
+  pub later : EachPlace (λ q. word_in after (q + 6) ≡ word_in m (q + 6)) order
   pub classes : (j : ℕ) → j < old.count → word_in after (page_at old.page j) ≡ word_in m (page_at old.page j)
   pub kept : (live : List Extent) → HasBlocks old m live [] → KeepsWords m after live
   pub sizes : KeepsSizes old new
   pub count : new.count ≡ old.count
   pub arenas : IsInArenas m after
-  pub below : k ≤ old.count
 
-pub waits_from_last : (pages : Pages) (m : Memory) → WaitsFrom pages pages m m pages.count
-waits_from_last pages m = record {
+pub waits_start : (old new : Pages) (m : Memory) (order : List ℕ) → IsOrder old m order → IsOnlyOrder old new → WaitsBut old new m m order
+waits_start old new m order h only = record {
   waiting = [];
-  fits = λ live f. f;
-  above = tt;
-  waits = λ j low high n. absurd (omega arith);
-  used = tt;
-  later = λ j low. refl;
+  all = subst (IsOrder old m) (sym (append-nil order)) h;
+  fits = λ live f. order_fits old new m live [] 0 0 only f;
+  later = each_from (λ q. word_in m (q + 6) ≡ word_in m (q + 6)) order (λ q i. refl);
   classes = λ j low. refl;
   kept = λ live f. keeps_same m m live (λ e. refl);
-  sizes = record { page = refl; pages_per_arena = refl; small = refl };
-  count = refl;
+  sizes = only.sizes;
+  count = only.count;
   arenas = arenas_same m;
-  below = omega arith;
 }
 
 -- no page waits in a memory where none does
 none_three : (pages : Pages) (m : Memory) (live : List Extent) (k : ℕ) → HasBlocks pages m live [] → k < pages.count → word_in m (page_at pages.page k + 6) ≢ 3
 none_three pages m live k f below three = (waits_exactly pages m (page_at pages.page k) live [] f (record { number = k; below = below; is = refl })).0 three
 
-pub can_wait_next : (old new : Pages) (m after : Memory) (k : ℕ) → NoneWaits old m → WaitsFrom old new m after (k + 1) → CanWait new after (page_at new.page k)
-can_wait_next old new m after k n h =
-    let below : k + 1 ≤ old.count = h.below in
-    let count : new.count ≡ old.count = h.count in
-    let size : new.page ≡ old.page = h.sizes.page in
-    record {
-      live = n.live;
-      waiting = h.waiting;
-      fits = h.fits n.live n.fits;
-      is_page = record { number = k; below = omega arith; is = refl };
-      not_waiting = subst (λ (s : ℕ). word_in after (page_at s k + 6) ≢ 3) (sym size) (λ e. none_three old m n.live k n.fits (omega arith) (sym (h.later k (omega arith)) ∙ e));
-    }
+rising_around : (p : ℕ) (xs ys : List ℕ) → IsRising (xs ++ p ∷ ys) → EachPlace (λ q. q < p) xs × EachPlace (λ q. p < q) ys
+rising_around p [] ys h = (tt, h.0)
+rising_around p (x ∷ xs) ys h = let rest = rising_around p xs ys h.1 in ((places_at (λ q. x < q) xs ys p h.0, rest.0), rest.1)
 
-if_used : (n : ℕ) (xs ys : List ℕ) → n ≢ 0 → (if n == 0 then xs else ys) ≡ ys
-if_used n xs ys e = grind (arith, nat_tests)
+places_front : (P : ℕ → Type 0) (xs ys : List ℕ) → EachPlace P (xs ++ ys) → EachPlace P xs
+places_front P [] ys all = tt
+places_front P (x ∷ xs) ys all = (all.0, places_front P xs ys all.1)
 
-if_unused : (n : ℕ) (xs ys : List ℕ) → n ≡ 0 → (if n == 0 then xs else ys) ≡ xs
-if_unused n xs ys e = grind (arith, nat_tests)
+-- the last page of the order goes in front of the waiting ones
+module _ (old new less : Pages) (m after : Memory) (order : List ℕ) (page : ℕ) (n : NoneWaits old m) (h : WaitsBut old new m after (order ++ page ∷ [])) (only : IsOnlyOrder new less) where
+  all_of : IsOrder old m (order ++ page ∷ h.waiting)
+  all_of = subst (IsOrder old m) (append_assoc order (page ∷ []) h.waiting) h.all
 
-pub waits_next : (old new last : Pages) (m after final : Memory) (k : ℕ) → NoneWaits old m → WaitsFrom old new m after (k + 1) → WaitsMore new last after final (page_at new.page k) → WaitsFrom old last m final k
-waits_next old new last m after final k n h g =
-    let size = old.page in
-    let p = page_at size k in
-    let same : page_at new.page k ≡ p = ap (λ (s : ℕ). page_at s k) h.sizes.page in
-    let wide : 64 ≤ size = n.fits.blocks.size_low in
-    let below : k + 1 ≤ old.count = h.below in
-    let count : new.count ≡ old.count = h.count in
-    let class : word_in after p ≡ word_in m p = h.classes k (omega arith) in
-    let up : page_at size k + size ≤ page_at size (k + 1) = pages_part size k (k + 1) (omega arith) in
-    let over : EachPlace (λ q. p < q) h.waiting = places_map (λ q. page_at size (k + 1) ≤ q) (λ q. p < q) (λ q low. omega arith) h.waiting h.above in
-    let over_new : EachPlace (λ q. page_at new.page k < q) h.waiting = subst (λ (r : ℕ). EachPlace (λ q. r < q) h.waiting) (sym same) over in
-    let more : (live : List Extent) → HasBlocks old m live [] → HasBlocks last final live (if word_in after p == 0 then h.waiting else p ∷ h.waiting) = λ live f. subst (λ (r : ℕ). HasBlocks last final live (if word_in after r == 0 then h.waiting else r ∷ h.waiting)) same (g.fits live h.waiting (h.fits live f) over_new) in
-    let words : (j : ℕ) → j < k → word_in final (page_at size j + 6) ≡ word_in after (page_at size j + 6) = λ j low. subst (λ (s : ℕ). page_at s j ≢ page_at s k → word_in final (page_at s j + 6) ≡ word_in after (page_at s j + 6)) h.sizes.page (λ away. g.others j (omega arith) away) (let part : page_at size j + size ≤ page_at size k = pages_part size j k low in omega arith) in
-    let classes : (j : ℕ) → j < old.count → word_in final (page_at size j) ≡ word_in after (page_at size j) = λ j low. subst (λ (s : ℕ). word_in final (page_at s j) ≡ word_in after (page_at s j)) h.sizes.page (g.classes j (omega arith)) in
-    let make : (ws : List ℕ) → ((live : List Extent) → HasBlocks old m live [] → HasBlocks last final live ws) → EachPlace (λ q. p ≤ q) ws → ((j : ℕ) → k ≤ j → j < old.count → word_in m (page_at size j) ≢ 0 → IsIn (page_at size j) ws) → EachPlace (λ q. word_in m q ≢ 0) ws → WaitsFrom old last m final k = λ ws fits above waits used. record {
-      waiting = ws;
-      fits = fits;
-      above = above;
-      waits = waits;
-      used = used;
-      later = λ j low. words j low ∙ h.later j (omega arith);
-      classes = λ j low. classes j low ∙ h.classes j low;
-      kept = λ live f. keeps_then m after final live (h.kept live f) (g.kept live h.waiting (h.fits live f));
-      sizes = record { page = g.sizes.page ∙ h.sizes.page; pages_per_arena = g.sizes.pages_per_arena ∙ h.sizes.pages_per_arena; small = g.sizes.small ∙ h.sizes.small };
-      count = g.count ∙ h.count;
-      arenas = arenas_then m after final h.arenas g.arenas;
-      below = omega arith;
-    } in
-    let lower : EachPlace (λ q. p ≤ q) h.waiting = places_map (λ q. p < q) (λ q. p ≤ q) (λ q low. omega arith) h.waiting over in
-    elim (eqb_tells (word_in m p) 0) [
-      | inl z ↦ make h.waiting
-          (λ live f. subst (λ (ws : List ℕ). HasBlocks last final live ws) (if_unused (word_in after p) h.waiting (p ∷ h.waiting) (class ∙ z.1)) (more live f))
-          lower
-          (λ j low high used. elim (eqb_tells j k) [ inl a ↦ absurd (used (ap (λ (i : ℕ). word_in m (page_at size i)) a.1 ∙ z.1)) | inr b ↦ h.waits j (let d : j ≢ k = b.1 in omega arith) high used ])
-          h.used
-      | inr y ↦ make (p ∷ h.waiting)
-          (λ live f. subst (λ (ws : List ℕ). HasBlocks last final live ws) (if_used (word_in after p) h.waiting (p ∷ h.waiting) (λ e. y.1 (sym class ∙ e))) (more live f))
-          (omega arith, lower)
-          (λ j low high used. elim (eqb_tells j k) [ inl a ↦ inl (ap (page_at size) a.1) | inr b ↦ inr (h.waits j (let d : j ≢ k = b.1 in omega arith) high used) ])
-          (y.1, h.used)
-    ]
+  its_use : IsUsed old m page
+  its_use = places_at (IsUsed old m) order h.waiting page all_of.used
+
+  size_same : less.page ≡ old.page
+  size_same = only.sizes.page ∙ h.sizes.page
+
+  count_same : less.count ≡ old.count
+  count_same = only.count ∙ h.count
+
+  fits_less : (live : List Extent) → HasBlocks old m live [] → HasBlocks less after live h.waiting
+  fits_less live f = order_fits new less after live h.waiting 0 0 only (h.fits live f)
+
+  pub can_wait_next : CanWait less after page
+  can_wait_next =
+      let u = its_use in
+      let is = u.is_page in
+      let class : word_in after page ≡ word_in m page = subst (λ (q : ℕ). word_in after q ≡ word_in m q) (sym is.is) (h.classes is.number is.below) in
+      let kind : word_in after (page + 6) ≡ word_in m (page + 6) = places_at (λ q. word_in after (q + 6) ≡ word_in m (q + 6)) order [] page h.later in
+      record {
+        live = n.live;
+        waiting = h.waiting;
+        fits = fits_less n.live n.fits;
+        is_page = subst (λ (s : ℕ). IsPage s less.count page) (sym size_same) (subst (λ (k : ℕ). IsPage old.page k page) (sym count_same) is);
+        used = λ e. u.used (sym class ∙ e);
+        not_waiting = λ e. none_three old m n.live is.number n.fits is.below (ap (λ (q : ℕ). word_in m (q + 6)) (sym is.is) ∙ sym kind ∙ e);
+      }
+
+  pub waits_next : (last : Pages) (final : Memory) → WaitsMore less last after final page → WaitsBut old last m final order
+  waits_next last final g =
+      let around = rising_around page order h.waiting all_of.rising in
+      let more : (live : List Extent) → HasBlocks old m live [] → HasBlocks last final live (page ∷ h.waiting) = λ live f. g.fits live h.waiting (fits_less live f) around.1 in
+      let low : EachPlace (λ q. q < page) order = around.0 in
+      let before : EachPlace (IsUsed old m) order = places_front (IsUsed old m) order (page ∷ h.waiting) all_of.used in
+      let words : EachPlace (λ q. word_in final (q + 6) ≡ word_in after (q + 6)) order = places_both (IsUsed old m) (λ q. q < page) (λ q. word_in final (q + 6) ≡ word_in after (q + 6))
+      (λ q u less_than.
+      let is = u.is_page in
+      let at : q ≡ page_at less.page is.number = is.is ∙ ap (λ (s : ℕ). page_at s is.number) (sym size_same) in
+      subst (λ (r : ℕ). word_in final (r + 6) ≡ word_in after (r + 6)) (sym at) (g.others is.number (omega (arith, count_same, is.below)) (λ e. omega (arith, at ∙ e, less_than)))) order before low in
+      record {
+        waiting = page ∷ h.waiting;
+        all = all_of;
+        fits = more;
+        later = places_both (λ q. word_in final (q + 6) ≡ word_in after (q + 6)) (λ q. word_in after (q + 6) ≡ word_in m (q + 6)) (λ q. word_in final (q + 6) ≡ word_in m (q + 6)) (λ q a b. a ∙ b) order words
+            (places_front (λ q. word_in after (q + 6) ≡ word_in m (q + 6)) order (page ∷ []) h.later);
+        classes = λ j below. subst (λ (s : ℕ). word_in final (page_at s j) ≡ word_in after (page_at s j)) size_same (g.classes j (omega (arith, count_same, below))) ∙ h.classes j below;
+        kept = λ live f. keeps_then m after final live (h.kept live f) (g.kept live h.waiting (fits_less live f));
+        sizes = record { page = g.sizes.page ∙ size_same; pages_per_arena = g.sizes.pages_per_arena ∙ only.sizes.pages_per_arena ∙ h.sizes.pages_per_arena; small = g.sizes.small ∙ only.sizes.small ∙ h.sizes.small };
+        count = g.count ∙ count_same;
+        arenas = arenas_then m after final h.arenas g.arenas;
+      }
+
+no_places : (xs : List ℕ) → length xs ≡ 0 → xs ≡ []
+no_places [] e = refl
+no_places (x ∷ xs) e = absurd (omega (arith, e))
+
+pub waits_end : (old new less : Pages) (m after : Memory) (order : List ℕ) → length order ≡ 0 → IsOnlyOrder new less → WaitsBut old new m after order → WaitsBut old less m after []
+waits_end old new less m after order none only h = record {
+  waiting = h.waiting;
+  all = subst (λ (xs : List ℕ). IsOrder old m (xs ++ h.waiting)) (no_places order none) h.all;
+  fits = λ live f. order_fits new less after live h.waiting 0 0 only (h.fits live f);
+  later = tt;
+  classes = h.classes;
+  kept = h.kept;
+  sizes = record { page = only.sizes.page ∙ h.sizes.page; pages_per_arena = only.sizes.pages_per_arena ∙ h.sizes.pages_per_arena; small = only.sizes.small ∙ h.sizes.small };
+  count = only.count ∙ h.count;
+  arenas = h.arenas;
+}
 
 chain_none : (w : Words) (n : ℕ) (free : List Extent) → Chain w n 0 free → length free ≡ 0
 chain_none w n [] c = refl
@@ -218,17 +235,17 @@ pages_in_use pages m live f =
           let away : in_page size p x ≡ false = out is.page ((f.blocks.pages is.page is.below).unused unused) in absurd (cc),
     )) live f.blocks.inside (each_for size live live (λ k e. out_each size (page_at size k) live e))
 
-pub sweep_begun : (old new : Pages) (m after : Memory) → WaitsFrom old new m after 0 → (live : List Extent) → HasBlocks old m live [] → BeginsSweep new after live
+pub sweep_begun : (old new : Pages) (m after : Memory) → WaitsBut old new m after [] → (live : List Extent) → HasBlocks old m live [] → BeginsSweep new after live
 sweep_begun old new m after h live f =
     let size = old.page in
     let g = h.fits live f in
     let same : new.page ≡ size = h.sizes.page in
-    let all : EachPlace (IsPage new.page new.count) h.waiting = subst (EachPlace (IsPage new.page new.count)) g.lists.waits (g.lists.pages 1) in
-    let was : EachPlace (IsPage size old.count) h.waiting = subst (λ (s : ℕ). EachPlace (IsPage s old.count) h.waiting) same (subst (λ (n : ℕ). EachPlace (IsPage new.page n) h.waiting) h.count all) in
-    let only : EachPlace (HasLive size live) h.waiting = places_both (IsPage size old.count) (λ q. word_in m q ≢ 0) (HasLive size live) (λ q is used. subst (λ (p : ℕ). HasLive size live p) (sym is.is) (HasBlocks_used old m live [] is.number f is.below (λ e. used (ap (word_in m) is.is ∙ e)) (none_three old m live is.number f is.below))) h.waiting was h.used in
+    let was : EachPlace (IsPage size old.count) h.waiting = places_map (IsUsed old m) (IsPage size old.count) (λ q u. u.is_page) h.waiting h.all.used in
+    let only : EachPlace (HasLive size live) h.waiting = places_map (IsUsed old m) (HasLive size live) (λ q u.
+    let is = u.is_page in subst (λ (p : ℕ). HasLive size live p) (sym is.is) (HasBlocks_used old m live [] is.number f is.below (λ e. u.used (ap (word_in m) is.is ∙ e)) (none_three old m live is.number f is.below))) h.waiting h.all.used in
     let every : Each (λ x. IsIn (page_of size x.0) h.waiting) live =
     Each-map (λ x. (is : IsInPages size old.count x) × (word_in m (page_at size is.page) ≢ 0)) (λ x. IsIn (page_of size x.0) h.waiting)
-    (λ x u. subst (λ (p : ℕ). IsIn p h.waiting) (sym (own_page old m live x f u.0)) (h.waits u.0.page (omega arith) u.0.below u.1)) live (pages_in_use old m live f) in
+    (λ x u. subst (λ (p : ℕ). IsIn p h.waiting) (sym (own_page old m live x f u.0)) (h.all.every u.0.page u.0.below u.1)) live (pages_in_use old m live f) in
     record {
       waiting = h.waiting;
       fits = g;

@@ -1,5 +1,5 @@
 -- Giving a block back: the page leaves its list, gets the free block, and goes on another.
-use Rattle.std.proofs.Common.{◌≡◌, ◌≢◌, ℕ, ◌+◌, ◌-◌, ◌*◌, ◌/◌, ◌^◌, ◌<◌, ◌≤◌, inl, List, ◌∷◌, length, arith, refl, sym, ◌∙◌, ap, subst}
+use Rattle.std.proofs.Common.{◌≡◌, ◌≢◌, ℕ, ◌+◌, ◌-◌, ◌*◌, ◌/◌, ◌^◌, ◌<◌, ◌≤◌, inl, List, ◌∷◌, length, vec_capacity, arith, refl, sym, ◌∙◌, ap, subst}
 use Rattle.std.proofs.lemmas.Bool.Decides.{nat_tests}
 use Rattle.heap_space.specs.Memory.{Memory}
 use Rattle.heap_space.specs.Extents.{Extent}
@@ -9,7 +9,7 @@ use Rattle.size_pages.specs.LiveBlocks.{page_at, blocks_of, BlocksFit, ClassesFi
 use Rattle.size_pages.specs.PageLists.{IsPage, list_number, IsRight, IsListedRightly, ListsFit, SameSigns}
 use Rattle.size_pages.specs.HasBlocks.{IsPlaced, HasBlocksBut, HasBlocks, IsLive, KeepsSizes}
 use Rattle.size_pages.specs.Steps.{CanPut, CanTakeOff, CanPutOn, CanEnd, CanGiveFull, IsOnlyHeads, BlockIn}
-use Rattle.size_pages.specs.Growth.{IsLowered}
+use Rattle.size_pages.specs.Growth.{IsLowered, IsOnlyOrder}
 use Rattle.size_pages.specs.declared.Pages.{Pages}
 use Rattle.size_pages.proofs.GiveLaws.{block_in, used_page, can_put, given_fits, right_given, cleared_fits}
 
@@ -19,12 +19,16 @@ heads_long {pages} {m} {live} {waiting} {except} {spare} f page list is small =
     let below : is.number < pages.count = is.below in
     let long : 2 * pages.small + 2 ≤ length pages.heads.items = f.heads (omega arith) in omega arith
 
--- only where the search for unused pages begins changes
+pub no_less : (pages after : Pages) → after.order ≡ pages.order → vec_capacity pages.order ≤ vec_capacity after.order
+no_less pages after e = let same : vec_capacity after.order ≡ vec_capacity pages.order = ap (λ v. vec_capacity v) e in omega arith
+
+-- only where the search for unused pages begins changes, and the room for an order does not shrink
 pub record IsRecounted (old new : Pages) : Type 0 where
   pub sizes : KeepsSizes old new
   pub count : new.count ≡ old.count
   pub waiting : new.waiting ≡ old.waiting
   pub heads : new.heads.items ≡ old.heads.items
+  pub room : vec_capacity old.order ≤ vec_capacity new.order
 
 pub recounted_fits : (pages after : Pages) (m : Memory) (live : List Extent) (waiting : List ℕ) (except spare : ℕ) → IsRecounted pages after → ClassesFit (word_in m) pages.page pages.count pages.small after.lowest → HasBlocksBut pages m live waiting except spare → HasBlocksBut after m live waiting except spare
 recounted_fits pages after m live waiting except spare l classes h =
@@ -47,7 +51,13 @@ recounted_fits pages after m live waiting except spare l classes h =
       heads = λ some. let e : after.count ≡ pages.count = l.count in let long : 2 * pages.small + 2 ≤ length pages.heads.items = h.heads (omega arith) in let same : length after.heads.items ≡ length pages.heads.items = ap (λ (v : List ℕ). length v) l.heads in omega arith;
       waits = l.waiting ∙ h.waits;
       rising = h.rising;
+      room = let more : vec_capacity pages.order ≤ vec_capacity after.order = l.room in let enough : pages.count + spare ≤ vec_capacity pages.order = h.room in let e : after.count ≡ pages.count = l.count in omega arith;
     }
+
+pub order_fits : (pages after : Pages) (m : Memory) (live : List Extent) (waiting : List ℕ) (except spare : ℕ) → IsOnlyOrder pages after → HasBlocksBut pages m live waiting except spare → HasBlocksBut after m live waiting except spare
+order_fits pages after m live waiting except spare l h =
+    recounted_fits pages after m live waiting except spare (record { sizes = l.sizes; count = l.count; waiting = l.waiting; heads = l.heads; room = l.room })
+    (subst (λ (k : ℕ). ClassesFit (word_in m) pages.page pages.count pages.small k) (sym l.lowest) h.classes) h
 
 pub lowered_fits : (pages after : Pages) (page : ℕ) (m : Memory) (live : List Extent) (waiting : List ℕ) (except spare : ℕ) → IsLowered pages after page → HasBlocksBut pages m live waiting except spare → HasBlocksBut after m live waiting except spare
 lowered_fits pages after page m live waiting except spare l h =
@@ -56,7 +66,7 @@ lowered_fits pages after page m live waiting except spare l h =
       within = let a : pages.lowest ≤ pages.count = h.classes.within in let b : after.lowest ≤ pages.lowest = l.below in omega arith;
       used = λ k below. h.classes.used k (let b : after.lowest ≤ pages.lowest = l.below in omega arith);
     } in
-    recounted_fits pages after m live waiting except spare (record { sizes = l.sizes; count = l.count; waiting = l.waiting; heads = l.heads }) classes h
+    recounted_fits pages after m live waiting except spare (record { sizes = l.sizes; count = l.count; waiting = l.waiting; heads = l.heads; room = no_less pages after l.order }) classes h
 
 pub same_block : (pages p2 : Pages) (page a n : ℕ) → IsOnlyHeads pages p2 → BlockIn pages.page pages.count page a n → BlockIn p2.page p2.count page a n
 same_block pages p2 page a n o b = subst (λ (s : ℕ). BlockIn s p2.count page a n) (sym o.page) (subst (λ (k : ℕ). BlockIn pages.page k page a n) (sym o.count) b)

@@ -1,5 +1,5 @@
 -- The code's steps keep what the live blocks and the lists are.
-use Rattle.std.proofs.Common.{◌≡◌, ◌≢◌, ℕ, ◌+◌, ◌-◌, ◌*◌, ◌/◌, ◌%◌, ◌<◌, ◌≤◌, ◌⊎◌, inl, inr, true, List, [], ◌∷◌, ◌++◌, length, slice_index, arith, refl, sym, ◌∙◌, ap, subst}
+use Rattle.std.proofs.Common.{◌≡◌, ◌≢◌, ℕ, ◌+◌, ◌-◌, ◌*◌, ◌/◌, ◌%◌, ◌<◌, ◌≤◌, ◌⊎◌, inl, inr, true, List, [], ◌∷◌, ◌++◌, length, slice_index, vec_capacity, arith, refl, sym, ◌∙◌, ap, subst}
 use Rattle.std.proofs.lemmas.Bool.{cases_lt}
 use Rattle.std.proofs.lemmas.Bool.Decides.{eqb_tells}
 use Rattle.std.proofs.lemmas.List.{get_or_past}
@@ -104,12 +104,13 @@ fits_any pages after old new live fresh waiting waiting2 except except2 spare h 
       heads = λ some. let long : 2 * pages.small + 2 ≤ length pages.heads.items = h.heads (omega (arith, count, some)) in let e : after.small ≡ pages.small = only.small in let r : length after.heads.items ≡ length pages.heads.items = only.room in omega arith;
       waits = waits;
       rising = rising;
+      room = let enough : pages.count + spare ≤ vec_capacity pages.order = h.room in let same : vec_capacity after.order ≡ vec_capacity pages.order = ap (λ v. vec_capacity v) only.order in omega arith;
     }
 
 pub fits_new : (pages after : Pages) (old new : Memory) (live fresh : List Extent) (waiting : List ℕ) (except except2 spare : ℕ) → HasBlocksBut pages old live waiting except spare → IsOnlyHeads pages after → IsInArenas old new → BlocksFit (word_in new) pages.page pages.count fresh → ClassesFit (word_in new) pages.page pages.count pages.small pages.lowest → ListsFit (word_in new) pages.page pages.count after.heads.items waiting except2 → HasBlocksBut after new fresh waiting except2 spare
 fits_new pages after old new live fresh waiting except except2 spare h only s blocks classes lists =
     fits_any pages after old new live fresh waiting waiting except except2 spare h
-    (record { page = only.page; pages_per_arena = only.pages_per_arena; small = only.small; count = only.count; lowest = only.lowest; room = only.room }) s blocks classes lists (only.waiting ∙ h.waits) h.rising
+    (record { page = only.page; pages_per_arena = only.pages_per_arena; small = only.small; count = only.count; lowest = only.lowest; room = only.room; order = only.order }) s blocks classes lists (only.waiting ∙ h.waits) h.rising
 
 -- where a page lies
 pub record PageFacts (size count p : ℕ) : Type 0 where

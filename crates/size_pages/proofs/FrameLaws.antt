@@ -71,6 +71,7 @@ HasBlocks_untouched pages old new live waiting f next size_same u =
       heads = f.heads;
       waits = f.waits;
       rising = f.rising;
+      room = f.room;
     }
 
 -- one word within a live block is written

@@ -17,7 +17,7 @@ use Rattle.size_pages.proofs.FitsLaws.{fits_new, page_facts, header_has, below_o
 
 -- nothing of the pages' numbers changes
 pub only_same : (pages : Pages) → IsOnlyHeads pages pages
-only_same pages = record { page = refl; pages_per_arena = refl; small = refl; count = refl; lowest = refl; waiting = refl; room = refl }
+only_same pages = record { page = refl; pages_per_arena = refl; small = refl; count = refl; lowest = refl; waiting = refl; room = refl; order = refl }
 
 -- one page changes
 pub classes_one : (old new : Words) (size count most was lowest k : ℕ) → ClassesFit old size count most was → lowest ≤ was → ((e : ℕ) → (e < page_at size k) ⊎ (page_at size k + size ≤ e) → new e ≡ old e) → 64 ≤ size → new (page_at size k) ≤ most → (k < lowest → new (page_at size k) ≢ 0) → ClassesFit new size count most lowest

@@ -1,5 +1,5 @@
 -- An arena more, and which page a block comes from.
-use Rattle.std.proofs.Common.{◌≡◌, ◌≢◌, ℕ, ◌+◌, ◌*◌, ◌^◌, ◌<◌, ◌≤◌, inl, inr, List, [], ◌∷◌, length, replicate, slice_index, arith, refl, sym, ◌∙◌, ap, subst}
+use Rattle.std.proofs.Common.{◌≡◌, ◌≢◌, ℕ, ◌+◌, ◌*◌, ◌^◌, ◌<◌, ◌≤◌, inl, inr, List, [], ◌∷◌, length, replicate, slice_index, vec_capacity, arith, refl, sym, ◌∙◌, ap, subst}
 use Rattle.std.proofs.lemmas.Bool.{cases_lt}
 use Rattle.std.proofs.lemmas.Bool.Decides.{eqb_tells, nat_tests}
 use Rattle.std.specs.List.{filter}
@@ -19,7 +19,7 @@ use Rattle.size_pages.specs.declared.Pages.{Pages}
 use Rattle.size_pages.proofs.FitLaws.{pages_part}
 use Rattle.size_pages.proofs.ListMoves.{not_zero}
 use Rattle.size_pages.proofs.FitsLaws.{page_mono, places_of}
-use Rattle.size_pages.proofs.EndLaws.{recounted_fits}
+use Rattle.size_pages.proofs.EndLaws.{no_less, recounted_fits}
 
 funext : {A B : Type 0} {f g : A → B} → ((a : A) → f a ≡ g a) → f ≡ g
 funext h = λ i a. h a i
@@ -40,8 +40,8 @@ new_page size count per words k e low high =
     let total = arena_end size count per words e in
     let up : page_at size k + size ≤ page_at size (count + per) = pages_part size k (count + per) high in omega arith
 
-pub arena_fits : (pages : Pages) (m : Memory) → IsInOrder m → IsInOrder (with_arena m) → (live : List Extent) (waiting : List ℕ) → HasBlocks pages m live waiting → HasBlocksBut pages (with_arena m) live waiting 0 pages.pages_per_arena
-arena_fits pages m o n live waiting f =
+pub arena_fits : (pages : Pages) (m : Memory) → IsInOrder m → IsInOrder (with_arena m) → pages.count + pages.pages_per_arena ≤ vec_capacity pages.order → (live : List Extent) (waiting : List ℕ) → HasBlocks pages m live waiting → HasBlocksBut pages (with_arena m) live waiting 0 pages.pages_per_arena
+arena_fits pages m o n room live waiting f =
     let size = pages.page in
     let count = pages.count in
     let per = pages.pages_per_arena in
@@ -73,6 +73,7 @@ arena_fits pages m o n live waiting f =
       heads = f.heads;
       waits = f.waits;
       rising = f.rising;
+      room = room;
     }
 
 pub arenas_outside : (m new : Memory) → IsInArenas m new → KeepsOutside 4294967296 1099511627776 m new
@@ -189,5 +190,5 @@ raised_fits pages after m page r low live waiting f =
       | inl a ↦ absurd (let part : page_at size low.is_page.number + size ≤ page_at size after.lowest = pages_part size low.is_page.number after.lowest a in omega arith)
       | inr b ↦ b
     ] in
-    recounted_fits pages after m live waiting 0 0 (record { sizes = r.sizes; count = r.count; waiting = r.waiting; heads = r.heads })
+    recounted_fits pages after m live waiting 0 0 (record { sizes = r.sizes; count = r.count; waiting = r.waiting; heads = r.heads; room = no_less pages after r.order })
     (record { small = f.classes.small; within = omega arith; used = λ k below. low.lower k (omega arith) }) f

@@ -11,6 +11,7 @@ pub mod EndLaws
 pub mod TakeLaws
 pub mod KeepLaws
 pub mod StartLaws
+pub mod WalkLaws
 pub mod GrowthLaws
 pub mod AroundLaws
 pub mod GrowLaws
@@ -18,7 +19,10 @@ pub mod BeginLaws
 pub mod ChoiceLaws
 pub mod FrameLaws
 pub mod OrderLaws
+pub mod ObjectLaws
 pub mod WaitLaws
+pub mod TimesLaws
+pub mod UsedLaws
 pub mod QueueLaws
 pub mod BeginSweepLaws
 pub mod SplitLaws

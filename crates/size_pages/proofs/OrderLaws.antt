@@ -81,6 +81,7 @@ HasBlocks_front pages m F L x waiting f = record {
   heads = f.heads;
   waits = f.waits;
   rising = f.rising;
+  room = f.room;
 }
 
 each_back : (P : Extent → Type 0) (free F L : List Extent) (x : Extent) → Each P (free ++ x ∷ (F ++ L)) → Each P (free ++ (F ++ x ∷ L))
@@ -143,4 +144,5 @@ HasBlocks_back pages m F L x waiting f = record {
   heads = f.heads;
   waits = f.waits;
   rising = f.rising;
+  room = f.room;
 }

@@ -1,6 +1,6 @@
 -- Pages that go on the list of the waiting ones, and leave it.
-use Rattle.std.proofs.Common.{◌≡◌, ◌≢◌, ℕ, ◌+◌, ◌-◌, ◌*◌, ◌<◌, ◌≤◌, ◌⊎◌, inl, inr, ◌==◌, if◌then◌else◌, List, [], ◌∷◌, length, slice_index, arith, refl, sym, ◌∙◌, ap, subst}
-use Rattle.std.proofs.lemmas.Bool.Decides.{eqb_tells, nat_tests}
+use Rattle.std.proofs.Common.{◌≡◌, ◌≢◌, ℕ, ◌+◌, ◌-◌, ◌*◌, ◌<◌, ◌≤◌, ◌⊎◌, inl, inr, List, [], ◌∷◌, length, slice_index, arith, refl, sym, ◌∙◌, ap, subst}
+use Rattle.std.proofs.lemmas.Bool.Decides.{eqb_tells}
 use Rattle.heap_space.specs.Memory.{Memory}
 use Rattle.heap_space.specs.Extents.{Extent}
 use Rattle.size_pages.specs.PageWords.{Words, word_in, HasAll, IsInArenas}
@@ -15,8 +15,8 @@ use Rattle.size_pages.proofs.ListLaws.{places_map}
 use Rattle.size_pages.proofs.ListMoves.{page_words, not_zero, first_page, lists_link_any}
 use Rattle.size_pages.proofs.FitsLaws.{fits_any, places_of, below_of, header_has, has_or, no_link, classes_same, beside}
 use Rattle.size_pages.proofs.EndLaws.{heads_long, number_of_list}
-use Rattle.size_pages.proofs.KeepLaws.{keeps_then, keeps_same, links_keep, off_keeps}
-use Rattle.size_pages.proofs.ArenaLaws.{arenas_then, arenas_same}
+use Rattle.size_pages.proofs.KeepLaws.{keeps_then, links_keep, off_keeps}
+use Rattle.size_pages.proofs.ArenaLaws.{arenas_then}
 
 -- where the words of the links alone change
 link_words : (w new : Words) (size count page next : ℕ) (heads after : List ℕ) (list kind : ℕ) → 64 ≤ size → IsPage size count page → (next ≡ 0) ⊎ IsPage size count next → next ≡ slice_index heads list → Links w new heads after page list kind → StaysButLinks w new size count
@@ -106,9 +106,9 @@ kind_low kind class n h = elim (eqb_tells kind 0) [ inl a ↦ absurd (n (h a.1))
 -- what the page that is to wait has in its header
 pub record WaitFacts (pages : Pages) (m : Memory) (page : ℕ) : Type 0 where
   pub header : HasAll m page (page + 8)
-  pub off : word_in m page ≢ 0 → CanTakeOff pages m page (2 * word_in m page + (word_in m (page + 6) - 1))
-  pub used : word_in m page ≢ 0 → 2 ≤ word_in m page
-  pub kind : word_in m page ≢ 0 → 1 ≤ word_in m (page + 6)
+  pub off : CanTakeOff pages m page (2 * word_in m page + (word_in m (page + 6) - 1))
+  pub used : 2 ≤ word_in m page
+  pub kind : 1 ≤ word_in m (page + 6)
   pub kind_most : word_in m (page + 6) ≤ 3
   pub small : word_in m page ≤ 8192
   pub few : pages.waiting ≤ 1099511627776
@@ -122,18 +122,18 @@ wait_facts pages m page c =
     let k = c.is_page.number in
     let at : page ≡ page_at size k = c.is_page.is in
     let right : IsListedRightly w size page = subst (λ (q : ℕ). IsListedRightly w size q) (sym at) (f.lists.rightly k c.is_page.below (omega arith)) in
-    let low : w page ≢ 0 → 1 ≤ w (page + 6) = λ n. kind_low (w (page + 6)) (w page) n right.unused in
-    let used : w page ≢ 0 → 2 ≤ w page = λ n. right.used (let l : 1 ≤ w (page + 6) = low n in omega arith) in
+    let low : 1 ≤ w (page + 6) = kind_low (w (page + 6)) (w page) c.used right.unused in
+    let used : 2 ≤ w page = right.used (omega arith) in
     let class : w page ≤ pages.small = subst (λ (q : ℕ). w q ≤ pages.small) (sym at) (f.classes.small k c.is_page.below) in
     let small : pages.small + 8 ≤ size = f.small_high in
     let big : size ≤ 8192 = f.size_high in
     record {
       header = header_has m size pages.count page wide (places_of f) (below_of f) c.is_page;
-      off = λ n. record {
+      off = record {
         stands = record { live = c.live; waiting = c.waiting; fits = f };
         is_page = c.is_page;
-        is_list = number_of_list (w (page + 6)) (w page) (w page) refl (low n) c.not_waiting;
-        not_waiting = let two : 2 ≤ w page = used n in omega arith;
+        is_list = number_of_list (w (page + 6)) (w page) (w page) refl low c.not_waiting;
+        not_waiting = omega arith;
       };
       used = used;
       kind = low;
@@ -142,10 +142,10 @@ wait_facts pages m page c =
       few = few_waiting pages m c.live c.waiting 0 0 f;
     }
 
-pub can_put_waiting : (pages p1 : Pages) (m m1 : Memory) (page list : ℕ) → CanWait pages m page → word_in m page ≢ 0 → ((live : List Extent) (waiting : List ℕ) → HasBlocks pages m live waiting → HasBlocksBut p1 m1 live waiting page 0) → SameSigns (word_in m) (word_in m1) page → IsOnlyHeads pages p1 → CanPutWaiting p1 m1 page
-can_put_waiting pages p1 m m1 page list c n off signs only =
+pub can_put_waiting : (pages p1 : Pages) (m m1 : Memory) (page list : ℕ) → CanWait pages m page → ((live : List Extent) (waiting : List ℕ) → HasBlocks pages m live waiting → HasBlocksBut p1 m1 live waiting page 0) → SameSigns (word_in m) (word_in m1) page → IsOnlyHeads pages p1 → CanPutWaiting p1 m1 page
+can_put_waiting pages p1 m m1 page list c off signs only =
     let g = wait_facts pages m page c in
-    let two : 2 ≤ word_in m page = g.used n in
+    let two : 2 ≤ word_in m page = g.used in
     let same : word_in m1 page ≡ word_in m page = signs.class in
     let count : p1.waiting ≡ pages.waiting = only.waiting in
     let few : pages.waiting ≤ 1099511627776 = g.few in
@@ -183,41 +183,25 @@ on_words pages after m new page k i c u below which =
       | inr s ↦ (let six : i ≡ 6 = s.0 in u.rest (page_at size k + i) (words 4 (omega arith) (omega arith) (omega arith)) (words 5 (omega arith) (omega arith) (omega arith)) (λ same. s.1 (omega (arith, same))) (five (omega arith) (omega arith)))
     ]
 
-if_zero : (n : ℕ) (xs ys : List ℕ) → n ≡ 0 → (if n == 0 then xs else ys) ≡ xs
-if_zero n xs ys e = grind (arith, nat_tests)
-
-if_more : (n : ℕ) (xs ys : List ℕ) → n ≢ 0 → (if n == 0 then xs else ys) ≡ ys
-if_more n xs ys e = grind (arith, nat_tests)
-
-pub waits_none : (pages : Pages) (m : Memory) (page : ℕ) → word_in m page ≡ 0 → WaitsMore pages pages m m page
-waits_none pages m page unused = record {
-  fits = λ live waiting f above. subst (λ (ws : List ℕ). HasBlocks pages m live ws) (sym (if_zero (word_in m page) waiting (page ∷ waiting) unused)) f;
-  kept = λ live waiting f. keeps_same m m live (λ e. refl);
-  classes = λ k below. refl;
-  others = λ k below n. refl;
-  sizes = record { page = refl; pages_per_arena = refl; small = refl };
-  count = refl;
-  arenas = arenas_same m;
-}
-
-pub waits_more : (pages p1 p2 : Pages) (m m1 m2 : Memory) (page list : ℕ) → CanWait pages m page → word_in m page ≢ 0 → CanTakeOff pages m page list → ((live : List Extent) (waiting : List ℕ) → HasBlocks pages m live waiting → HasBlocksBut p1 m1 live waiting page 0) → Unlinks (word_in m) (word_in m1) pages.heads.items p1.heads.items page list → SameSigns (word_in m) (word_in m1) page → IsOnlyHeads pages p1 → IsInArenas m m1
-    → ((live : List Extent) (waiting : List ℕ) → HasBlocksBut p1 m1 live waiting page 0 → EachPlace (λ q. page < q) waiting → HasBlocks p2 m2 live (page ∷ waiting)) → Links (word_in m1) (word_in m2) p1.heads.items p2.heads.items page 1 3 → KeepsSizes p1 p2 → p2.count ≡ p1.count → IsInArenas m1 m2 → WaitsMore pages p2 m m2 page
-waits_more pages p1 p2 m m1 m2 page list c n off_ok off u signs only s on l sizes count s2 =
-    let put = can_put_waiting pages p1 m m1 page list c n off signs only in
+pub waits_more : (pages p1 p2 : Pages) (m m1 m2 : Memory) (page list : ℕ) → CanWait pages m page → CanTakeOff pages m page list → ((live : List Extent) (waiting : List ℕ) → HasBlocks pages m live waiting → HasBlocksBut p1 m1 live waiting page 0) → Unlinks (word_in m) (word_in m1) pages.heads.items p1.heads.items page list → SameSigns (word_in m) (word_in m1) page → IsOnlyHeads pages p1 → IsInArenas m m1
+    → ((live : List Extent) (waiting : List ℕ) → HasBlocksBut p1 m1 live waiting page 0 → EachPlace (λ q. page < q) waiting → HasBlocks p2 m2 live (page ∷ waiting)) → Links (word_in m1) (word_in m2) p1.heads.items p2.heads.items page 1 3 → KeepsSizes p1 p2 → p2.count ≡ p1.count → p2.order ≡ p1.order → IsInArenas m1 m2 → WaitsMore pages p2 m m2 page
+waits_more pages p1 p2 m m1 m2 page list c off_ok off u signs only s on l sizes count order s2 =
+    let put = can_put_waiting pages p1 m m1 page list c off signs only in
     let size : p1.page ≡ pages.page = only.page in
     let word : (k i : ℕ) → k < pages.count → i < 8 → i ≢ 4 → i ≢ 5 → (i ≡ 0) ⊎ ((i ≡ 6) × (page_at pages.page k ≢ page)) → word_in m2 (page_at pages.page k + i) ≡ word_in m (page_at pages.page k + i) = λ k i below small n4 n5 which.
     subst (λ (z : ℕ). (i ≡ 0) ⊎ ((i ≡ 6) × (page_at z k ≢ page)) → word_in m2 (page_at z k + i) ≡ word_in m1 (page_at z k + i)) size (on_words p1 p2.heads.items m1 m2 page k i put l (let e : p1.count ≡ pages.count = only.count in omega arith)) which
     ∙ off_words pages p1.heads.items m m1 page list k i off_ok u below small n4 n5 in
     record {
-      fits = λ live waiting f above. subst (λ (ws : List ℕ). HasBlocks p2 m2 live ws) (sym (if_more (word_in m page) waiting (page ∷ waiting) n)) (on live waiting (off live waiting f) above);
+      fits = λ live waiting f above. on live waiting (off live waiting f) above;
       kept = λ live waiting f. keeps_then m m1 m2 live (off_keeps pages p1.heads.items m m1 page list off_ok u live waiting f) (links_keep p1 p2.heads.items m1 m2 page 1 3 live waiting 0 put.is_page l (off live waiting f));
       classes = λ k below. subst (λ (e : ℕ). word_in m2 e ≡ word_in m e) (omega arith) (word k 0 below (omega arith) (omega arith) (omega arith) (inl refl));
       others = λ k below away. word k 6 below (omega arith) (omega arith) (omega arith) (inr (refl, away));
       sizes = record { page = sizes.page ∙ only.page; pages_per_arena = sizes.pages_per_arena ∙ only.pages_per_arena; small = sizes.small ∙ only.small };
       count = count ∙ only.count;
+      order = order ∙ only.order;
       arenas = arenas_then m m1 m2 s s2;
     }
 
-pub wait_off : (pages : Pages) (m : Memory) (page class kind : ℕ) → CanWait pages m page → class ≡ word_in m page → kind ≡ word_in m (page + 6) → class ≢ 0 → CanTakeOff pages m page (2 * class + (kind - 1))
-wait_off pages m page class kind c is_class is_kind n =
-    subst (λ (x : ℕ). CanTakeOff pages m page (2 * x + (kind - 1))) (sym is_class) (subst (λ (x : ℕ). CanTakeOff pages m page (2 * word_in m page + (x - 1))) (sym is_kind) ((wait_facts pages m page c).off (λ e. n (is_class ∙ e))))
+pub wait_off : (pages : Pages) (m : Memory) (page class kind : ℕ) → CanWait pages m page → class ≡ word_in m page → kind ≡ word_in m (page + 6) → CanTakeOff pages m page (2 * class + (kind - 1))
+wait_off pages m page class kind c is_class is_kind =
+    subst (λ (x : ℕ). CanTakeOff pages m page (2 * x + (kind - 1))) (sym is_class) (subst (λ (x : ℕ). CanTakeOff pages m page (2 * word_in m page + (x - 1))) (sym is_kind) (wait_facts pages m page c).off)

@@ -1,5 +1,5 @@
 -- An unused page gets a class, and pages are counted.
-use Rattle.std.proofs.Common.{◌≡◌, ◌≢◌, ℕ, ◌+◌, ◌-◌, ◌*◌, ◌<◌, ◌≤◌, ◌⊎◌, inl, inr, List, [], ◌∷◌, length, slice_index, arith, refl, sym, ◌∙◌, ap, subst}
+use Rattle.std.proofs.Common.{◌≡◌, ◌≢◌, ℕ, ◌+◌, ◌-◌, ◌*◌, ◌<◌, ◌≤◌, ◌⊎◌, inl, inr, List, [], ◌∷◌, length, slice_index, vec_capacity, arith, refl, sym, ◌∙◌, ap, subst}
 use Rattle.std.proofs.lemmas.Bool.Decides.{eqb_tells}
 use Rattle.heap_space.specs.Memory.{Memory}
 use Rattle.heap_space.specs.Extents.{Extent, Each}
@@ -127,6 +127,7 @@ pub record IsMore (old new : Pages) : Type 0 where
   pub lowest : new.lowest ≡ old.lowest
   pub waiting : new.waiting ≡ old.waiting
   pub heads : new.heads.items ≡ old.heads.items
+  pub order : new.order ≡ old.order
 
 -- a page that was spare is counted, and is on no list yet
 pub counted_fits : (pages after : Pages) (m : Memory) (live : List Extent) (waiting : List ℕ) (spare : ℕ) → IsMore pages after → word_in m (page_at pages.page pages.count) ≡ 0 → 2 * pages.small + 2 ≤ length pages.heads.items → HasBlocksBut pages m live waiting 0 (spare + 1) → HasBlocksBut after m live waiting (page_at pages.page pages.count) spare
@@ -165,6 +166,7 @@ counted_fits pages after m live waiting spare more unused long f =
       heads = λ some. let same : length after.heads.items ≡ length pages.heads.items = ap (λ (v : List ℕ). length v) more.heads in omega arith;
       waits = more.waiting ∙ f.waits;
       rising = f.rising;
+      room = let enough : count + (spare + 1) ≤ vec_capacity pages.order = f.room in let same : vec_capacity after.order ≡ vec_capacity pages.order = ap (λ v. vec_capacity v) more.order in let e : after.count ≡ count + 1 = more.count in omega arith;
     }
 
 counted_page : (pages after : Pages) → IsMore pages after → IsPage after.page after.count (page_at pages.page pages.count)

@@ -9,12 +9,13 @@ use Rattle.size_pages.specs.PageLists.{EachPlace, first_of_list, IsPage, list_nu
 use Rattle.size_pages.specs.HasBlocks.{HasBlocksBut, HasBlocks, Stands}
 use Rattle.size_pages.specs.Steps.{CanTake, CanTakeUnlisted, CanTakeOff, CanPutOn, IsOnlyHeads}
 use Rattle.size_pages.specs.Calls.{page_of}
+use Rattle.size_pages.specs.Growth.{IsOnlyOrder}
 use Rattle.size_pages.specs.declared.Pages.{Pages}
 use Rattle.size_pages.proofs.PageLaws.{holds_chained, holds_fresh}
 use Rattle.size_pages.proofs.FitLaws.{fits_more, stays_elsewhere}
 use Rattle.size_pages.proofs.FitsLaws.{fits_new, page_facts, header_has, below_of, places_of}
 use Rattle.size_pages.proofs.GiveLaws.{page_number, IsOnlyPage, lists_inner, classes_one, only_same}
-use Rattle.size_pages.proofs.EndLaws.{heads_long}
+use Rattle.size_pages.proofs.EndLaws.{heads_long, order_fits}
 
 -- the blocks of a page of n words
 pub record ClassPage (w : Words) (size p n : ℕ) (live : List Extent) : Type 0 where
@@ -259,5 +260,5 @@ can_take_first pages p2 m m2 page n st two small ne is off signs only =
 pub stands_on : (pages after : Pages) (m : Memory) → Stands pages m → ((live : List Extent) (waiting : List ℕ) → HasBlocks pages m live waiting → HasBlocks after m live waiting) → Stands after m
 stands_on pages after m s keeps = record { live = s.live; waiting = s.waiting; fits = keeps s.live s.waiting s.fits }
 
-pub same_stands : (pages after : Pages) (m new : Memory) (live : List Extent) (waiting : List ℕ) → after ≡ pages → new ≡ m → HasBlocks pages m live waiting → HasBlocks after new live waiting
-same_stands pages after m new live waiting e g f = subst (λ (p : Pages). HasBlocks p new live waiting) (sym e) (subst (λ (k : Memory). HasBlocks pages k live waiting) (sym g) f)
+pub same_stands : (pages after : Pages) (m new : Memory) (live : List Extent) (waiting : List ℕ) → IsOnlyOrder pages after → new ≡ m → HasBlocks pages m live waiting → HasBlocks after new live waiting
+same_stands pages after m new live waiting o g f = order_fits pages after new live waiting 0 0 o (subst (λ (k : Memory). HasBlocks pages k live waiting) (sym g) f)

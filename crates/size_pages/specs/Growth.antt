@@ -1,5 +1,5 @@
 -- Pages that are begun and ended, and arenas that are added: what the steps ask, and what they change.
-use Rattle.std.specs.Prelude.{◌≡◌, ◌≢◌, ℕ, ◌+◌, ◌*◌, ◌<◌, ◌≤◌, ◌⊎◌, ◌↔◌, List, length}
+use Rattle.std.specs.Prelude.{◌≡◌, ◌≢◌, ℕ, ◌+◌, ◌*◌, ◌<◌, ◌≤◌, ◌⊎◌, ◌↔◌, List, length, vec_capacity}
 use Rattle.heap_space.specs.Memory.{Memory}
 use Rattle.heap_space.specs.Extents.{Extent, KeepsWords, KeepsOutside}
 use Rattle.size_pages.specs.PageWords.{Words, word_in, IsInArenas}
@@ -33,6 +33,7 @@ pub record IsLowered (old new : Pages) (page : ℕ) : Type 0 where
   pub count : new.count ≡ old.count
   pub waiting : new.waiting ≡ old.waiting
   pub heads : new.heads.items ≡ old.heads.items
+  pub order : new.order ≡ old.order
 
 -- no page before it is unused
 pub record IsRaised (old new : Pages) (page : ℕ) : Type 0 where
@@ -41,6 +42,16 @@ pub record IsRaised (old new : Pages) (page : ℕ) : Type 0 where
   pub count : new.count ≡ old.count
   pub waiting : new.waiting ≡ old.waiting
   pub heads : new.heads.items ≡ old.heads.items
+  pub order : new.order ≡ old.order
+
+-- nothing changes but the places in `order`, and its room does not shrink
+pub record IsOnlyOrder (old new : Pages) : Type 0 where
+  pub sizes : KeepsSizes old new
+  pub count : new.count ≡ old.count
+  pub lowest : new.lowest ≡ old.lowest
+  pub waiting : new.waiting ≡ old.waiting
+  pub heads : new.heads.items ≡ old.heads.items
+  pub room : vec_capacity old.order ≤ vec_capacity new.order
 
 -- nothing changes but the heads and where the search for unused pages begins
 pub record IsOnlyCounts (old new : Pages) : Type 0 where

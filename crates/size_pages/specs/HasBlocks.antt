@@ -1,5 +1,5 @@
 -- How the pages and the words of their space spell the live blocks and the waiting pages.
-use Rattle.std.specs.Prelude.{◌≡◌, ℕ, ◌+◌, ◌*◌, ◌<◌, ◌≤◌, List, [], ◌∷◌, length, IsTrue}
+use Rattle.std.specs.Prelude.{◌≡◌, ℕ, ◌+◌, ◌*◌, ◌<◌, ◌≤◌, List, [], ◌∷◌, length, vec_capacity, IsTrue}
 use Rattle.heap_space.specs.Memory.{Memory}
 use Rattle.heap_space.specs.Extents.{Extent, extents_between, lies_within}
 use Rattle.size_pages.specs.PageWords.{word_in}
@@ -34,6 +34,7 @@ pub record HasBlocksBut (pages : Pages) (m : Memory) (live : List Extent) (waiti
   pub heads : 0 < pages.count → 2 * pages.small + 2 ≤ length pages.heads.items
   pub waits : pages.waiting ≡ length waiting
   pub rising : IsRising waiting
+  pub room : pages.count + spare ≤ vec_capacity pages.order
 
 -- these are the live blocks, in any order, and the waiting pages, by rising place
 abbrev pub HasBlocks : Pages → Memory → List Extent → List ℕ → Type 0

@@ -6,6 +6,7 @@ pub mod Steps
 pub mod Growth
 pub mod Calls
 pub mod SweepSteps
+pub mod Gathering
 pub mod Headers
 pub mod Listing
 pub mod Sweeping

@@ -51,6 +51,7 @@ pub record IsOnlyHeads (old new : Pages) : Type 0 where
   pub lowest : new.lowest ≡ old.lowest
   pub waiting : new.waiting ≡ old.waiting
   pub room : length new.heads.items ≡ length old.heads.items
+  pub order : new.order ≡ old.order
 
 -- the page is on that list, which is not that of the waiting ones
 pub record CanTakeOff (pages : Pages) (m : Memory) (page list : ℕ) : Type 0 where

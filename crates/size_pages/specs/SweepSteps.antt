@@ -1,5 +1,5 @@
 -- What the steps of a sweep ask, and what they change.
-use Rattle.std.specs.Prelude.{◌≡◌, ◌≢◌, ℕ, ◌+◌, ◌^◌, ◌<◌, ◌≤◌, ◌==◌, if◌then◌else◌, List, ◌∷◌, length}
+use Rattle.std.specs.Prelude.{◌≡◌, ◌≢◌, ℕ, ◌+◌, ◌^◌, ◌<◌, ◌≤◌, List, ◌∷◌, length}
 use Rattle.heap_space.specs.Memory.{Memory}
 use Rattle.heap_space.specs.Extents.{Extent, KeepsWords}
 use Rattle.size_pages.specs.PageWords.{word_in, IsInArenas}
@@ -8,12 +8,13 @@ use Rattle.size_pages.specs.PageLists.{EachPlace, IsPage}
 use Rattle.size_pages.specs.HasBlocks.{HasBlocks, HasBlocksBut, KeepsSizes}
 use Rattle.size_pages.specs.declared.Pages.{Pages}
 
--- the page does not wait, and all waiting pages are above it
+-- the page is in use and does not wait
 pub record CanWait (pages : Pages) (m : Memory) (page : ℕ) : Type 0 where
   pub live : List Extent
   pub waiting : List ℕ
   pub fits : HasBlocks pages m live waiting
   pub is_page : IsPage pages.page pages.count page
+  pub used : word_in m page ≢ 0
   pub not_waiting : word_in m (page + 6) ≢ 3
 
 -- the page, in use and on no list, may go in front of the waiting ones
@@ -25,14 +26,15 @@ pub record CanPutWaiting (pages : Pages) (m : Memory) (page : ℕ) : Type 0 wher
   pub used : 2 ≤ word_in m page
   pub few : pages.waiting < 2 ^ 62
 
--- the page waits too, where it is in use
+-- the page waits too, in front of those that lie above it
 pub record WaitsMore (old new : Pages) (m after : Memory) (page : ℕ) : Type 0 where
-  pub fits : (live : List Extent) (waiting : List ℕ) → HasBlocks old m live waiting → EachPlace (λ q. page < q) waiting → HasBlocks new after live (if word_in m page == 0 then waiting else page ∷ waiting)
+  pub fits : (live : List Extent) (waiting : List ℕ) → HasBlocks old m live waiting → EachPlace (λ q. page < q) waiting → HasBlocks new after live (page ∷ waiting)
   pub kept : (live : List Extent) (waiting : List ℕ) → HasBlocks old m live waiting → KeepsWords m after live
   pub classes : (k : ℕ) → k < old.count → word_in after (page_at old.page k) ≡ word_in m (page_at old.page k)
   pub others : (k : ℕ) → k < old.count → page_at old.page k ≢ page → word_in after (page_at old.page k + 6) ≡ word_in m (page_at old.page k + 6)
   pub sizes : KeepsSizes old new
   pub count : new.count ≡ old.count
+  pub order : new.order ≡ old.order
   pub arenas : IsInArenas m after
 
 -- nothing but the heads and the number of waiting pages changes
@@ -43,3 +45,4 @@ pub record IsOnlyLists (old new : Pages) : Type 0 where
   pub count : new.count ≡ old.count
   pub lowest : new.lowest ≡ old.lowest
   pub room : length new.heads.items ≡ length old.heads.items
+  pub order : new.order ≡ old.order

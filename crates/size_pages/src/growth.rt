@@ -1,13 +1,13 @@
 //! Pages that are begun, and arenas that are added for them.
 
-ghost use Rattle.std.specs.Prelude.{◌≡◌, ℕ, ◌+◌, ◌*◌, ◌<◌, ◌≤◌, List, length, IfOk, OnOk, OnErr};
+ghost use Rattle.std.specs.Prelude.{◌≡◌, ℕ, ◌+◌, ◌*◌, ◌^◌, ◌<◌, ◌≤◌, List, length, vec_capacity, IfOk, OnOk, OnErr};
 ghost use Rattle.heap_space.specs.Memory.{Memory};
 ghost use Rattle.heap_space.specs.Extents.{Extent, KeepsWords, KeepsOutside};
 ghost use Rattle.size_pages.specs.PageWords.{word_in, IsInArenas};
 ghost use Rattle.size_pages.specs.LiveBlocks.{page_at};
 ghost use Rattle.size_pages.specs.HasBlocks.{HasBlocks, HasBlocksBut, Stands, KeepsSizes};
 ghost use Rattle.size_pages.specs.Steps.{CanTakeUnlisted};
-ghost use Rattle.size_pages.specs.Growth.{HasUnused, AllUsed, IsLowestUnused, IsRaised, IsOnlyCounts, CanList, ListsPages, AddsPages, BeginsPage};
+ghost use Rattle.size_pages.specs.Growth.{HasUnused, AllUsed, IsLowestUnused, IsRaised, IsOnlyCounts, IsOnlyOrder, CanList, ListsPages, AddsPages, BeginsPage};
 
 use crate::blocks::{UNUSED, start_class};
 use crate::words::load;
@@ -38,7 +38,7 @@ impl Pages {
         requires heads { 2 * self.old.small + 2 ≤ length self.old.heads.items }
         ensures begun { IfOk result (λ p. BeginsPage self.old self.new space.old space.new p n) }
         ensures err { OnErr result (space.new ≡ space.old) }
-        ensures err_blocks { OnErr result (self.new ≡ self.old) }
+        ensures err_order { OnErr result (IsOnlyOrder self.old self.new) }
     {
         if self.heads[0] == 0 {
             self.add_arena(space)?;
@@ -86,13 +86,24 @@ impl Pages {
         requires heads { 2 * self.old.small + 2 ≤ length self.old.heads.items }
         ensures ok { OnOk result (AddsPages self.old self.new space.old space.new) }
         ensures err { OnErr result (space.new ≡ space.old) }
-        ensures err_blocks { OnErr result (self.new ≡ self.old) }
+        ensures err_order { OnErr result (IsOnlyOrder self.old self.new) }
     {
         // It tells a proof how the blocks of the space lie.
         let _words = space.arena_words();
+        self.grow_order()?;
         space.add_arena()?;
         self.list_pages(space);
         Ok(())
+    }
+
+    /// Room for the places of all pages, with those of an arena more.
+    fn grow_order(&mut self) -> Result<(), AllocError>
+        requires { self.old.count + self.old.pages_per_arena < 2 ^ 62 }
+        ensures room { OnOk result (self.new.count + self.new.pages_per_arena ≤ vec_capacity self.new.order) }
+        ensures order { IsOnlyOrder self.old self.new }
+    {
+        self.order
+            .reserve((self.count + self.pages_per_arena) as usize)
     }
 
     /// Puts the pages of an arena that was just added on the list of the unused ones.

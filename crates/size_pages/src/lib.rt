@@ -2,7 +2,8 @@
 //! class. Free blocks are chained through their own words, and pages are linked into lists through
 //! the words of their headers: one list for the unused pages, one for those that wait for a sweep,
 //! and for each class one for the pages with room and one for the full ones. Nothing is kept beside
-//! the words of the space but sizes, counts, and the head of each list.
+//! the words of the space but sizes, counts, the head of each list, and room for the places of the
+//! pages in use while a sweep begins.
 #![tactic(auto)]
 
 ghost use Rattle.std.specs.Prelude.{◌≡◌, ℕ, ◌+◌, ◌*◌, ◌<◌, ◌≤◌, List, [], ◌∷◌, length, IfOk, OnOk, OnErr};
@@ -13,6 +14,7 @@ ghost use Rattle.size_pages.specs.HasBlocks.{HasBlocks, Stands, IsLive, KeepsSiz
 ghost use Rattle.size_pages.specs.Calls.{page_of, IsInNone, TakesFrom, AddsArena, ChangesAround};
 
 mod blocks;
+mod gathering;
 mod growth;
 mod links;
 mod listing;
@@ -49,6 +51,9 @@ pub struct Pages {
     /// The first page of each list, or 0: of the unused pages, of the waiting ones, and from number
     /// 2 n on of those with blocks of n words that have room, and of the full ones.
     pub(crate) heads: Vec<u64>,
+    /// Room for the places of all pages. Only while a sweep begins it holds some: those of the pages
+    /// in use.
+    pub(crate) order: Vec<u64>,
 }
 
 impl Pages {
@@ -72,6 +77,7 @@ impl Pages {
             lowest: 0,
             waiting: 0,
             heads: Vec::new(alloc),
+            order: Vec::new(alloc),
         }
     }
 

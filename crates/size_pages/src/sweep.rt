@@ -8,10 +8,10 @@ ghost use Rattle.size_pages.specs.HasBlocks.{HasBlocks, HasBlocksBut, Stands, Ke
 ghost use Rattle.size_pages.specs.Calls.{page_of, BeginsLive, NoneWaits, BeginsSweep};
 ghost use Rattle.size_pages.specs.SweepSteps.{CanWait, CanPutWaiting, WaitsMore};
 
+use crate::Pages;
 use crate::blocks::WAITING;
 use crate::links::link;
 use crate::words::load;
-use crate::{ARENAS, Pages};
 use heap_space::Space;
 
 impl Pages {
@@ -23,7 +23,7 @@ impl Pages {
         load(space, self.page_of(a) + 6) == WAITING
     }
 
-    /// Every page in use waits from then on. It takes no memory.
+    /// Every page in use waits from then on. It takes no memory, and looks at no unused page.
     pub fn begin_sweep(&mut self, space: &mut Space)
         requires { NoneWaits self.old space.old }
         ensures begun { (live : List Extent) → HasBlocks self.old space.old live [] → BeginsSweep self.new space.new live }
@@ -32,22 +32,18 @@ impl Pages {
         ensures stands { Stands self.new space.new }
         ensures sizes { KeepsSizes self.old self.new }
     {
-        let mut number = self.count;
-        while number > 0 {
-            number -= 1;
-            self.wait_page(space, ARENAS + number * self.page);
+        self.order_pages(space);
+        while let Some(page) = self.order.pop() {
+            self.wait_page(space, page);
         }
     }
 
-    /// Puts the page on the list of the waiting ones, where it is in use.
+    /// Puts the page, which is in use, in front of the waiting ones.
     fn wait_page(&mut self, space: &mut Space, page: u64)
         requires { CanWait self.old space.old page }
         ensures { WaitsMore self.old self.new space.old space.new page }
     {
         let class = load(space, page);
-        if class == 0 {
-            return;
-        }
         let kind = load(space, page + 6);
         self.take_off(space, page, (2 * class + (kind - 1)) as usize);
         self.put_waiting(space, page);
@@ -60,6 +56,7 @@ impl Pages {
         ensures links { Links (word_in space.old) (word_in space.new) self.old.heads.items self.new.heads.items page 1 3 }
         ensures sizes { KeepsSizes self.old self.new }
         ensures count { self.new.count ≡ self.old.count }
+        ensures order { self.new.order ≡ self.old.order }
         ensures arenas { IsInArenas space.old space.new }
     {
         link(&mut self.heads, space, page, 1, WAITING);

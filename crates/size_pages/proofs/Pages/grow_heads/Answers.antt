@@ -31,4 +31,5 @@ returns-in_ok-resize-clause-keeps c m live waiting f =
       heads = λ some. let long : 2 * c.args.self.now.small + 2 ≤ length heads.items = f.heads some in let now : length c.resize.new.self.items ≡ 2 * c.args.self.now.small + 2 = omega (arith, c.in_ok-resize.ensures.len, c.resize.new.self.ok) in omega arith;
       waits = f.waits;
       rising = f.rising;
+      room = f.room;
     }

@@ -29,6 +29,7 @@ returns c = record {
     heads = λ some. absurd (omega arith);
     waits = refl;
     rising = tt;
+    room = omega arith;
   };
   page = refl;
   arena = refl;

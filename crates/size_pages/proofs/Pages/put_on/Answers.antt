@@ -8,4 +8,4 @@ link-requires c = can_link c.args.self.now c.args.space.now c.args.page c.args.l
 pub returns-clause-on : goal.returns-clause-on
 returns-clause-on c =
     on_fits c.args.self.now (record c.args.self.now { heads = c.link.new.heads }) c.args.space.now c.link.new.space c.args.page c.args.list c.args.kind c.requires c.link.ensures.links c.link.ensures.arenas
-    (record { page = refl; pages_per_arena = refl; small = refl; count = refl; lowest = refl; waiting = refl; room = c.link.ensures.links.same_size })
+    (record { page = refl; pages_per_arena = refl; small = refl; count = refl; lowest = refl; waiting = refl; room = c.link.ensures.links.same_size; order = refl })

@@ -65,6 +65,9 @@ returns-then-page-ne0-clause-outside c = arenas_outside c.args.space.now c.take_
 pub start_page-requires-clause-stands : goal.start_page-requires-clause-stands
 start_page-requires-clause-stands c = stands_on c.args.self.now c.grow_heads.new.self c.args.space.now c.requires.stands (c.grow_heads.ensures.keeps c.args.space.now)
 
+pub returns-in_err-page-clause-err_blocks : goal.returns-in_err-page-clause-err_blocks
+returns-in_err-page-clause-err_blocks c live waiting f = on_err_any c.from_residual-in_err-page.result _ (same_stands c.grow_heads.new.self c.start_page.new.self c.args.space.now c.start_page.new.space live waiting c.in_err-page.ensures.err_order c.in_err-page.ensures.err (c.grow_heads.ensures.keeps c.args.space.now live waiting f))
+
 pub returns-in_err-page-clause-kept : goal.returns-in_err-page-clause-kept
 returns-in_err-page-clause-kept c live waiting f = keeps_same c.args.space.now c.start_page.new.space live (λ e. ap (λ (m : Memory). word_in m e) c.in_err-page.ensures.err)
 
@@ -106,7 +109,7 @@ returns-then-page-ne0-clause-stands c = let st = c.requires.stands in record { l
 pub returns-in_err-page-clause-stands : goal.returns-in_err-page-clause-stands
 returns-in_err-page-clause-stands c =
     let st = c.requires.stands in
-    record { live = st.live; waiting = st.waiting; fits = same_stands c.grow_heads.new.self c.start_page.new.self c.args.space.now c.start_page.new.space st.live st.waiting c.in_err-page.ensures.err_blocks c.in_err-page.ensures.err (c.grow_heads.ensures.keeps c.args.space.now st.live st.waiting st.fits) }
+    record { live = st.live; waiting = st.waiting; fits = same_stands c.grow_heads.new.self c.start_page.new.self c.args.space.now c.start_page.new.space st.live st.waiting c.in_err-page.ensures.err_order c.in_err-page.ensures.err (c.grow_heads.ensures.keeps c.args.space.now st.live st.waiting st.fits) }
 
 pub returns-clause-stands : goal.returns-clause-stands
 returns-clause-stands c = let st = c.requires.stands in record { live = (c.take_unlisted-2.result, c.args.n) ∷ st.live; waiting = st.waiting; fits = c.take_unlisted-2.ensures.taken st.live st.waiting 0 (c.in_ok-page.ensures.begun.started st.live st.waiting (c.grow_heads.ensures.keeps c.args.space.now st.live st.waiting st.fits)) }

@@ -1,5 +1,5 @@
-use Rattle.std.proofs.Common.{arith, ◌∙◌, sym, ◌+◌, ◌-◌, ◌*◌}
-use Rattle.size_pages.proofs.QueueLaws.{wait_facts, wait_off, can_put_waiting, waits_none, waits_more}
+use Rattle.std.proofs.Common.{arith, ◌+◌, ◌-◌, ◌*◌}
+use Rattle.size_pages.proofs.QueueLaws.{wait_facts, wait_off, can_put_waiting, waits_more}
 use Rattle.size_pages.proofs.Pages.wait_page.Goals as goal
 
 pub load-class-requires : goal.load-class-requires
@@ -10,14 +10,11 @@ load-kind-requires c = (wait_facts c.args.self.now c.args.space.now c.args.page 
 
 pub put_waiting-requires : goal.put_waiting-requires
 put_waiting-requires c =
-    can_put_waiting c.args.self.now c.take_off.new.self c.args.space.now c.take_off.new.space c.args.page (2 * c.load-class.result + (c.load-kind.result - 1)) c.requires (λ e. c.if-class-eq0.false (c.load-class.ensures ∙ e))
+    can_put_waiting c.args.self.now c.take_off.new.self c.args.space.now c.take_off.new.space c.args.page (2 * c.load-class.result + (c.load-kind.result - 1)) c.requires
     c.take_off.ensures.off c.take_off.ensures.signs c.take_off.ensures.heads
-
-pub returns-then-class-eq0 : goal.returns-then-class-eq0
-returns-then-class-eq0 c = waits_none c.args.self.now c.args.space.now c.args.page (sym c.load-class.ensures ∙ c.if-class-eq0.true)
 
 pub returns : goal.returns
 returns c =
-    waits_more c.args.self.now c.take_off.new.self c.put_waiting.new.self c.args.space.now c.take_off.new.space c.put_waiting.new.space c.args.page (2 * c.load-class.result + (c.load-kind.result - 1)) c.requires (λ e. c.if-class-eq0.false (c.load-class.ensures ∙ e))
-    (wait_off c.args.self.now c.args.space.now c.args.page c.load-class.result c.load-kind.result c.requires c.load-class.ensures c.load-kind.ensures c.if-class-eq0.false)
-    c.take_off.ensures.off c.take_off.ensures.unlinks c.take_off.ensures.signs c.take_off.ensures.heads c.take_off.ensures.arenas c.put_waiting.ensures.on c.put_waiting.ensures.links c.put_waiting.ensures.sizes c.put_waiting.ensures.count c.put_waiting.ensures.arenas
+    waits_more c.args.self.now c.take_off.new.self c.put_waiting.new.self c.args.space.now c.take_off.new.space c.put_waiting.new.space c.args.page (2 * c.load-class.result + (c.load-kind.result - 1)) c.requires
+    (wait_off c.args.self.now c.args.space.now c.args.page c.load-class.result c.load-kind.result c.requires c.load-class.ensures c.load-kind.ensures)
+    c.take_off.ensures.off c.take_off.ensures.unlinks c.take_off.ensures.signs c.take_off.ensures.heads c.take_off.ensures.arenas c.put_waiting.ensures.on c.put_waiting.ensures.links c.put_waiting.ensures.sizes c.put_waiting.ensures.count c.put_waiting.ensures.order c.put_waiting.ensures.arenas

@@ -1,15 +1,7 @@
-use Rattle.std.proofs.Common.{ap, [], ◌∷◌, List, ℕ}
+use Rattle.std.proofs.Common.{ap, [], ◌∷◌}
 use Rattle.heap_space.specs.Memory.{Memory}
-use Rattle.size_pages.specs.PageLists.{IsIn}
-use Rattle.size_pages.specs.HasBlocks.{HasBlocks}
-use Rattle.size_pages.specs.Sweeping.{CanSweep}
-use Rattle.size_pages.specs.declared.Pages.{Pages}
+use Rattle.size_pages.proofs.ObjectLaws.{can_sweep}
 use Rattle.size_pages.proofs.tests.a_page_that_waits_is_unused_after_its_sweep.Goals as goal
-
--- some page waits, and nothing is live
-can_sweep : (pages : Pages) (m : Memory) (p : ℕ) (ws : List ℕ) → IsIn p ws → HasBlocks pages m [] ws → CanSweep pages m
-can_sweep pages m p [] i f = absurd i
-can_sweep pages m p (w ∷ ws) i f = record { live = []; page = w; rest = ws; has = record { fits = f; headed = tt } }
 
 pub live_blocks-requires : goal.live_blocks-requires
 live_blocks-requires g c = record { live = []; waiting = []; has = record { fits = c.new-pages.ensures.empty c.in_ok-space.space (ap (λ (m : Memory). m.next_arena) c.in_ok-space.ensures) (ap (λ (m : Memory). m.arena_words) c.in_ok-space.ensures); headed = tt } }
@@ -33,4 +25,4 @@ give_back-requires g c =
 pub sweep_page-requires : goal.sweep_page-requires
 sweep_page-requires g c =
     let b = c.begin_sweep.ensures.begun ((c.in_ok-block.block, 10) ∷ []) (c.in_ok-block.ensures.taken [] [] (c.new-pages.ensures.empty c.in_ok-space.space (ap (λ (m : Memory). m.next_arena) c.in_ok-space.ensures) (ap (λ (m : Memory). m.arena_words) c.in_ok-space.ensures))) in
-    can_sweep c.give_back.new.self c.give_back.new.space _ b.waiting b.every.0 (c.give_back.ensures.given [] b.waiting b.fits)
+    can_sweep c.give_back.new.self c.give_back.new.space [] _ b.waiting b.every.0 (c.give_back.ensures.given [] b.waiting b.fits) tt
