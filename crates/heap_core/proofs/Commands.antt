@@ -1,32 +1,38 @@
 -- What each call of a heap does to the stores that it stands for.
-use Rattle.std.proofs.Common.{◌≡◌, ◌≢◌, ℕ, zero, suc, IsTrue, List, [], ◌∷◌, length, map, replicate, Option, Some, None, refl, sym, ap, ◌∙◌, subst, inl, inr, arith, lit<}
+use Rattle.std.proofs.Common.{◌≡◌, ◌≢◌, ℕ, zero, suc, ◌+◌, ◌*◌, ◌≤◌, IsTrue, List, [], ◌∷◌, length, map, replicate, Option, Some, None, refl, sym, ap, ◌∙◌, subst, inl, inr, arith, lit<}
 use Rattle.std.specs.Prelude.{slice_index, option_and_then, ◌==◌}
 use Rattle.std.proofs.lemmas.Bool.{ne_eqb, eq-eqb}
 use Rattle.std.proofs.lemmas.Bool.Decides.{eqb_tells, nat_tests}
 use lib.ListN.{length-replicate}
 use Rattle.heap_space.specs.Places.{lies_in_one, zeros_at}
+use Rattle.heap_space.specs.Memory.{fresh_memory}
+use Rattle.old_space.specs.HasBlocks.{HasBlocks, greatest_small}
+use Rattle.old_space.specs.declared.Old.{Old}
 use Rattle.type_table.specs.declared.info.TypeInfo.{TypeInfo}
 use Rattle.type_table.specs.Table.{Table}
 use Rattle.object_view.specs.Views.{HasObject}
 use Rattle.object_view.proofs.WordLaws.{is_in-cases, is_in-nil}
 use Rattle.object_view.proofs.LayoutLaws.{laid_out}
 use Rattle.object_view.proofs.FoundLaws.{int-from, ref-from}
+use Rattle.object_view.proofs.FrameLaws.{none_hold}
 use Rattle.store_model.specs.declared.command.Command.TheVariants.{Put, Link, Load}
 use Rattle.store_model.specs.declared.settings.Settings.{Settings}
+use Rattle.store_model.specs.Setup.{small_words}
 use Rattle.store_model.specs.Object.{Object}
-use Rattle.store_model.specs.Store.{Store, object_at, empty_store}
+use Rattle.store_model.specs.Store.{Store, object_at, empty_store, kept_words, husk_words}
 use Rattle.store_model.specs.Sets.{is_in}
 use Rattle.store_model.specs.Slots.{held, put_in_slot, is_same, ints_of, refs_of, ref_in}
 use Rattle.store_model.specs.Steps.{int_at, ref_at, put_int, put_ref}
 use Rattle.store_model.specs.Checks.{AreInRange}
 use Rattle.store_model.specs.ObjectWords.{renamed, object_from}
 use Rattle.store_model.specs.Holds.{HoldsObjects, IsPointer}
-use Rattle.heap_core.specs.Parts.{HeapParts, heap_of, started_parts}
+use Rattle.heap_core.specs.Parts.{HeapParts, heap_of, started_parts, AreFresh}
 use Rattle.heap_core.specs.Told.{word_in, place_in}
 use Rattle.heap_core.specs.StandsFor.{PartsStandFor, HoldsSlots}
 use Rattle.heap_core.specs.Effects.{with_slot, with_word_at, int_place, ref_place, layout_in, birth_read}
-use Rattle.heap_core.specs.Commands.{AreReady, Changes}
+use Rattle.heap_core.specs.Commands.{AreStanding, AreReady, Changes}
 use Rattle.heap_core.proofs.SoundLaws.{pointer-some}
+use Rattle.heap_core.proofs.PlaceLaws.{placed_words}
 use Rattle.heap_core.proofs.ToldLaws.{held-named, slot-pointer, object-held}
 use Rattle.heap_core.proofs.StandLaws.{slot_stands, in_slot, put_stands, link_stands, sound-by}
 use Rattle.heap_core.proofs.Ready.{HasInt, HasRef, put_ready, link_ready, load_ready}
@@ -178,22 +184,13 @@ nothing p t = absurd (is_in-nil p t)
 nursery-whole : (nursery : ℕ) → IsTrue (lies_in_one (zeros_at 1 nursery ∷ []) 1 nursery)
 nursery-whole nursery = let n : length (replicate nursery zero) ≡ nursery = length-replicate nursery zero in grind (arith, nat_tests, n)
 
--- a heap that was just started stands for the empty store
-pub started_stands : (settings : Settings) (types : Table TypeInfo) → AreInRange settings
-    → PartsStandFor (started_parts settings types) (empty_store settings)
-started_stands settings types ranges =
-    let heap : HeapParts = started_parts settings types in
+started-parts : (settings : Settings) (types : Table TypeInfo) (old_blocks : Old) → AreInRange settings
+    → HasBlocks old_blocks (fresh_memory settings.nursery (settings.arena * settings.page)) [] [] → greatest_small old_blocks ≡ small_words settings
+    → PartsStandFor (started_parts settings types old_blocks) (empty_store settings)
+started-parts settings types old_blocks ranges empty small =
+    let heap : HeapParts = started_parts settings types old_blocks in
     let name : ℕ → ℕ = λ p. p in
-    let objects : HoldsObjects types (word_in heap) [] [] name [] = record {
-      reads = refl;
-      typed = λ p t. nothing p t;
-      header = λ p t. nothing p t;
-      above = λ p t. nothing p t;
-      named = λ p t. nothing p t;
-      apart = λ p q at t. nothing p t;
-      differ = λ p q t. nothing p t;
-      closed = λ p at t. nothing p t;
-    } in
+    let objects : HoldsObjects types (word_in heap) [] [] name [] = none_hold types (word_in heap) [] name in
     let slots : HoldsSlots heap.slots [] name settings.roots (replicate settings.roots None) = record {
       named = nil-slots settings.roots;
       many = length-replicate settings.roots 0;
@@ -205,14 +202,41 @@ started_stands settings types ranges =
       objects = objects;
       whole = λ p t. nothing p t;
       nursery = record { walk = refl; room = omega (arith, ranges.0); whole = nursery-whole settings.nursery };
+      blocks = record { live = empty; headers = λ p t. nothing p t };
+      settled = refl;
       slots = slots;
       next = refl;
       next_high = lit< tt;
       births = omega arith;
       unsettled = refl;
+      old_words = refl;
+      fresh = refl;
+      fresh_old = omega arith;
       limit = omega arith;
       ranges = ranges;
       arena = refl;
+      small = small;
       others = refl;
-      sound = sound-by settings (empty_store settings) 1 heap.slots objects slots refl (omega arith) refl;
+      sound = sound-by settings (empty_store settings) 1 heap.slots objects slots refl (omega arith) refl refl;
     }
+
+-- a heap that was just started stands for the empty store
+pub started_stands : (parts : HeapParts) (settings : Settings) (types : Table TypeInfo) → AreInRange settings → AreFresh parts settings types
+    → PartsStandFor parts (empty_store settings)
+started_stands parts settings types ranges fresh =
+    subst (λ (h : HeapParts). PartsStandFor h (empty_store settings)) (sym fresh.are) (started-parts settings types fresh.old_blocks ranges fresh.empty fresh.small)
+
+-- the words of all objects, and of husks
+pub used_is : (heap : HeapParts) (store : Store) → PartsStandFor heap store
+    → (heap.unsettled + heap.old_words ≡ kept_words store.kept) × (husk_words store.husks ≡ 0)
+used_is heap store s =
+    let words = placed_words store.settled s.objects s.settled in
+    let husks : husk_words store.husks ≡ 0 = ap (λ (t : Store). husk_words t.husks) s.others in
+    (omega (arith, words.all, words.unsettled, words.settled_are, s.unsettled, s.old_words, husks), husks)
+
+-- its words are counted below 2 ^ 63
+pub kept_fits : (heap : HeapParts) → AreStanding heap → heap.unsettled + heap.old_words ≤ heap.setup.settings.limit
+kept_fits heap standing = standing.stands.limit
+
+pub fresh_fits : (heap : HeapParts) → AreStanding heap → heap.fresh ≤ heap.setup.settings.limit
+fresh_fits heap standing = let s = standing.stands in omega (arith, s.fresh_old, s.limit)

@@ -1,8 +1,16 @@
 pub mod Births
+pub mod PlaceLaws
 pub mod SoundLaws
 pub mod ToldLaws
-pub mod Sums
+pub mod Walks
+pub mod SameLayouts
+pub mod BlockLaws
+pub mod WriteLaws
 pub mod StandLaws
+pub mod HeldLaws
+pub mod KeepLaws
+pub mod YoungBirths
+pub mod OldBirths
 pub mod Ready
 pub mod Commands
 pub mod Calls

@@ -12,7 +12,6 @@ use Rattle.store_model.specs.declared.item.Reason.TheVariants.{NotBuilt, NoRoot,
 use Rattle.store_model.specs.Range.{is_above, is_above_ids, is_above_items}
 use Rattle.store_model.specs.Shapes.{holds_ints, holds_refs, is_fixed_shape, is_array_shape}
 use Rattle.store_model.specs.Checks.{first_reason, born_checks, room_checks, type_words, int_checks, ref_checks}
-use Rattle.store_model.specs.Setup.{young_words}
 use Rattle.type_table.specs.declared.info.Shape.{Shape}
 use Rattle.type_table.specs.Words.{words_in}
 use Rattle.heap_core.specs.Parts.{HeapParts, HeapSeen, heap_of}
@@ -140,19 +139,18 @@ len_in_range root type_id len e =
 
 -- a birth that is not refused fits
 birth_passed : (found : Option TypeInfo) (heap : HeapParts) (test : Shape → Bool) (root items : ℕ) → root < heap.setup.settings.roots → items ≤ 16777216
-    → first_reason (born_checks found test ++ room_checks heap.setup.settings (type_words found items) heap.unsettled heap.unsettled) ≡ None → FitsOf found heap root items
+    → first_reason (born_checks found test ++ room_checks heap.setup.settings (type_words found items) heap.unsettled heap.fresh (heap.unsettled + heap.old_words)) ≡ None
+    → FitsOf found heap root items
 birth_passed None heap test root items l few e = absurd (let no : ⊥ = cc in no)
 birth_passed (Some info) heap test root items l few e =
     let settings = heap.setup.settings in let words = words_in info.shape items in
     let shaped = passed (not (test info.shape)) WrongShape _ e in
-    let small = passed (nat_lt (young_words settings) words) NotBuilt _ shaped.1 in
-    let fits = passed (nat_lt settings.nursery (heap.unsettled + words)) NotBuilt _ small.1 in
-    let few_words = passed (nat_lt settings.limit (heap.unsettled + words)) NotBuilt _ fits.1 in record {
+    let fits = passed (nat_lt settings.nursery (heap.unsettled + heap.fresh + words)) NotBuilt _ shaped.1 in
+    let few_words = passed (nat_lt settings.limit (heap.unsettled + heap.old_words + words)) NotBuilt _ fits.1 in record {
       root_in = l;
       items_few = few;
-      young = ltb-false (young_words settings) words small.0;
-      nursery = ltb-false settings.nursery (heap.unsettled + words) fits.0;
-      limit = ltb-false settings.limit (heap.unsettled + words) few_words.0;
+      nursery = ltb-false settings.nursery (heap.unsettled + heap.fresh + words) fits.0;
+      limit = ltb-false settings.limit (heap.unsettled + heap.old_words + words) few_words.0;
     }
 
 pub fixed_ready : (heap : HeapParts) (root type_id : ℕ) → AreReady heap (NewFixed root type_id) → FitsOf (value_at heap.setup.types type_id) heap root 0

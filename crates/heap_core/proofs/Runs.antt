@@ -1,19 +1,20 @@
 -- A heap that stands for a known store: which commands it can do, and what it stands for after a call.
-use Rattle.std.proofs.Common.{◌≡◌, Bool, true, false, List, Option, Some, None, option_map, sym, ap, ◌∙◌, subst}
+use Rattle.std.proofs.Common.{◌≡◌, ◌≤◌, Bool, true, false, List, Option, Some, None, option_map, sym, ap, ◌∙◌, subst}
 use Rattle.type_table.specs.declared.info.TypeInfo.{TypeInfo}
 use Rattle.type_table.specs.Table.{Table}
+use Rattle.type_table.specs.Words.{words_in}
 use Rattle.store_model.specs.declared.command.Command.{Command}
 use Rattle.store_model.specs.declared.settings.Settings.{Settings}
 use Rattle.store_model.specs.declared.line.Line.{Line}
-use Rattle.store_model.specs.Setup.{Setup, type_at}
+use Rattle.store_model.specs.Setup.{Setup, young_words, type_at}
 use Rattle.store_model.specs.Store.{Store, empty_store}
 use Rattle.store_model.specs.Checks.{first_reason}
 use Rattle.store_model.specs.Look.{Look, look}
 use Rattle.store_model.specs.Refusal.{command_checks}
 use Rattle.store_model.specs.Birth.{Request, Birth, BirthOfType, with_birth}
-use Rattle.heap_core.specs.Parts.{HeapParts, HeapSeen, heap_of, started_parts}
+use Rattle.heap_core.specs.Parts.{HeapParts, HeapSeen}
 use Rattle.heap_core.specs.StandsFor.{StandsFor, StandsForIf}
-use Rattle.heap_core.specs.Commands.{CanDo, CanDoIf, OfParts, Changes, Bears, setup_in}
+use Rattle.heap_core.specs.Commands.{CanDo, CanDoIf, OfParts, IsFresh, Changes, Bears, setup_in}
 use Rattle.heap_core.proofs.ToldLaws.{look-told}
 
 -- the heap was started with these settings and types, and stands for the store
@@ -43,11 +44,11 @@ pub can_do : (setup : Setup) (heap : HeapSeen) (store : Store) (command : Comman
 can_do setup heap store command runs passed = can_if setup heap.is_spent heap.parts store command runs.setup_is runs.stands passed
 
 -- it was just started
-pub runs_started : (settings : Settings) (types : Table TypeInfo) (heap : HeapSeen) → heap ≡ heap_of (started_parts settings types)
+pub runs_started : (settings : Settings) (types : Table TypeInfo) (heap : HeapSeen) → IsFresh heap settings types
     → StandsFor heap (empty_store settings) → Runs (record { settings = settings; types = types }) heap (empty_store settings)
-runs_started settings types heap is stands = record {
-  live = ap (λ (h : HeapSeen). h.is_spent) is;
-  setup_is = ap setup_in is;
+runs_started settings types heap fresh stands = record {
+  live = ap (λ (h : HeapSeen). h.is_spent) fresh.is;
+  setup_is = ap setup_in fresh.is ∙ ap (λ (parts : HeapParts). Some parts.setup) fresh.fresh.are;
   stands = stands;
 }
 
@@ -60,22 +61,25 @@ runs_changed setup old new store change runs changes = record {
   stands = changes.stands store runs.stands;
 }
 
+-- where no object was pinned, an object of few words is born young
 leaves : (setup : Setup) (info : TypeInfo) (parts : Option HeapParts) (store later : Store) (request : Request) (lines : List Line)
     → option_map (λ (p : HeapParts). p.setup) parts ≡ Some setup → type_at setup request.type_id ≡ Some info
-    → OfParts parts (λ p. Birth p.setup store request lines later) → later ≡ with_birth store info request
-leaves setup info None store later request lines is known birth = absurd birth
-leaves setup info (Some parts) store later request lines is known birth =
+    → words_in info.shape request.items ≤ young_words setup.settings → store.gapped ≡ false
+    → OfParts parts (λ p. Birth p.setup store request lines later) → later ≡ with_birth false store info request
+leaves setup info None store later request lines is known few gapped birth = absurd birth
+leaves setup info (Some parts) store later request lines is known few gapped birth =
     let here = subst (λ (s : Setup). Birth s store request lines later) (same-setup parts setup is) birth in
     let of_type = subst (λ (found : Option TypeInfo). BirthOfType found setup store request lines later) known here in
-    of_type.leaves
+    of_type.leaves ∙ ap (λ (is_old : Bool). with_birth is_old store info request) (of_type.small few gapped)
 
--- an object of a known type was born
+-- an object of a known type and of few words was born
 pub runs_born : (setup : Setup) (info : TypeInfo) (old new : HeapSeen) (store : Store) (request : Request) (before after : List Line)
-    → type_at setup request.type_id ≡ Some info → Runs setup old store → Bears old new request before after
-    → Runs setup new (with_birth store info request)
-runs_born setup info old new store request before after known runs bears =
+    → type_at setup request.type_id ≡ Some info → words_in info.shape request.items ≤ young_words setup.settings → store.gapped ≡ false
+    → Runs setup old store → Bears old new request before after → Runs setup new (with_birth false store info request)
+runs_born setup info old new store request before after known few gapped runs bears =
     let later = bears.births store runs.stands in record {
       live = bears.same_spent ∙ runs.live;
       setup_is = bears.setup ∙ runs.setup_is;
-      stands = subst (λ (s : Store). StandsFor new s) (leaves setup info old.parts store later.0 request bears.lines runs.setup_is known later.1) later.2;
+      stands = subst (λ (s : Store). StandsFor new s)
+          (leaves setup info old.parts store later.0 request bears.lines runs.setup_is known few gapped later.1) later.2;
     }

@@ -9,7 +9,7 @@ use Rattle.type_table.specs.declared.info.Shape.TheVariants.{Fixed, IntArray, Re
 use Rattle.type_table.specs.Table.{Table}
 use Rattle.store_model.specs.declared.settings.Settings.{Settings}
 use Rattle.store_model.specs.Object.{Object, referents}
-use Rattle.store_model.specs.Store.{object_at}
+use Rattle.store_model.specs.Store.{Store, object_at}
 use Rattle.store_model.specs.Sets.{is_in}
 use Rattle.store_model.specs.Roots.{is_kept, referents_in, target_in, roots_of}
 use Rattle.store_model.specs.Sound.{IsSound, AreFieldsKept, births_in}
@@ -18,8 +18,9 @@ use Rattle.store_model.specs.Holds.{HoldsObjects, IsPointer}
 use Rattle.object_view.proofs.WordLaws.{is_in-head, is_in-tail, is_in-cases, is_in-nil}
 use Rattle.object_view.proofs.LayoutLaws.{laid_out, weak-at, birth-from}
 use Rattle.object_view.proofs.FoundLaws.{StandsAt, found-at, stands-found, refs-from}
-use Rattle.heap_core.specs.StandsFor.{HoldsSlots, RiseBetween, plain_store}
+use Rattle.heap_core.specs.StandsFor.{HoldsSlots, RiseBetween, old_places, plain_store}
 use Rattle.heap_core.proofs.Births.{rise-end, rise-bounds, rise-differ, map-births}
+use Rattle.heap_core.proofs.PlaceLaws.{named-by, old-is_in}
 
 -- an object at a place is kept by its name
 pub is_kept-at : {types : Table TypeInfo} {word name : ℕ → ℕ} {met places : List ℕ} {kept : List Object}
@@ -162,26 +163,35 @@ slot-kept {name = name} {places = places} {kept = kept} holds (p ∷ slots) poin
           ]
     ]
 
+-- the births of old objects are kept
+settled-kept : {types : Table TypeInfo} {word name : ℕ → ℕ} {places : List ℕ} {kept : List Object}
+    → HoldsObjects types word places places name kept → (x : ℕ) → IsTrue (is_in x (map name (old_places places))) → IsTrue (is_kept kept x)
+settled-kept {name = name} {places = places} {kept = kept} holds x t =
+    let named = named-by name x (old_places places) t in
+    subst (λ (b : ℕ). IsTrue (is_kept kept b)) (sym named.is) (is_kept-at holds named.place (old-is_in places named.place named.there).0)
+
 -- nothing is an element of the empty list
 none : (x : ℕ) {A : Type 0} → IsTrue (is_in x []) → A
 none x t = absurd (is_in-nil x t)
 
 -- the store of these parts is one that commands can leave
 pub sound_of : {types : Table TypeInfo} {word name : ℕ → ℕ} {places : List ℕ} (settings : Settings) (next : ℕ) (kept : List Object)
-    (slots : List ℕ) (stored : List (Option ℕ))
+    (slots : List ℕ) (stored : List (Option ℕ)) (settled : List ℕ) (fresh : ℕ)
     → HoldsObjects types word places places name kept → HoldsSlots slots places name settings.roots stored
-    → RiseBetween 1 (map name places) next → IsSound settings (plain_store settings next kept stored)
+    → RiseBetween 1 (map name places) next → settled ≡ map name (old_places places)
+    → IsSound settings (plain_store settings next kept stored settled fresh)
 unfolding IsDistinct
-sound_of {types = types} {word = word} {name = name} {places = places} settings next kept slots stored holds in_slots rise =
+sound_of {types = types} {word = word} {name = name} {places = places} settings next kept slots stored settled fresh holds in_slots rise settles =
+    let store : Store = plain_store settings next kept stored settled fresh in
     let births_are : map (λ (o : Object). o.birth) kept ≡ map name places =
     ap (map (λ (o : Object). o.birth)) holds.reads
     ∙ map-births (λ (o : Object). o.birth) (object_from types name word) name places (λ p t. birth-from types name word p ∙ sym (holds.named p t)) in
-    let all_births : births_in (plain_store settings next kept stored) ≡ map name places = append-nil (map (λ (o : Object). o.birth) kept) ∙ births_are in
-    let slot_births : roots_of (plain_store settings next kept stored) ≡ filter_map (λ s. s) (map (renamed name) slots) =
+    let all_births : births_in store ≡ map name places = append-nil (map (λ (o : Object). o.birth) kept) ∙ births_are in
+    let slot_births : roots_of store ≡ filter_map (λ s. s) (map (renamed name) slots) =
     append-nil (filter_map (λ (s : Option ℕ). s) stored) ∙ ap (filter_map (λ (s : Option ℕ). s)) in_slots.named in
     record {
       fields = fields_kept holds;
-      settled = λ x t. none x t;
+      settled = λ x t. settled-kept holds x (subst (λ (xs : List ℕ). IsTrue (is_in x xs)) settles t);
       roots = λ x t. slot-kept holds slots in_slots.pointers x (subst (λ (xs : List ℕ). IsTrue (is_in x xs)) slot_births t);
       registered = λ x t. none x t;
       pins = record {

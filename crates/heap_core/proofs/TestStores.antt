@@ -1,5 +1,5 @@
 -- The stores that the heap of a test stands for, one behind each call, and what the heap can do then.
-use Rattle.std.proofs.Common.{◌≡◌, ℕ, zero, suc, false, List, [], ◌∷◌, refl, subst, inr}
+use Rattle.std.proofs.Common.{◌≡◌, ℕ, zero, suc, false, List, [], ◌∷◌, refl, subst, inr, arith}
 use Rattle.type_table.specs.declared.info.TypeInfo.{TypeInfo}
 use Rattle.type_table.specs.declared.info.Shape.TheVariants.{Fixed}
 use Rattle.type_table.specs.Table.{Table}
@@ -11,9 +11,9 @@ use Rattle.store_model.specs.Slots.{held}
 use Rattle.store_model.specs.Store.{Store, empty_store}
 use Rattle.store_model.specs.Birth.{with_birth}
 use Rattle.store_model.specs.Steps.{array_request, put_int, put_ref}
-use Rattle.heap_core.specs.Parts.{HeapSeen, heap_of, started_parts}
+use Rattle.heap_core.specs.Parts.{HeapSeen}
 use Rattle.heap_core.specs.StandsFor.{StandsFor}
-use Rattle.heap_core.specs.Commands.{CanDo, CanBear, Bears, Changes}
+use Rattle.heap_core.specs.Commands.{CanDo, CanBear, IsFresh, Bears, Changes}
 use Rattle.heap_core.proofs.Runs.{Runs, can_do, runs_started, runs_born, runs_changed}
 
 -- one whole number and one reference
@@ -26,7 +26,7 @@ pairs = record { settings = defaults; types = (1, pair) ∷ [] }
 -- so many objects in the first slots
 abbrev pub newborns : ℕ → Store
 newborns zero = empty_store defaults
-newborns (suc n) = with_birth (newborns n) pair (array_request n 1 0)
+newborns (suc n) = with_birth false (newborns n) pair (array_request n 1 0)
 
 -- the first refers to the second
 abbrev pub linked : Store
@@ -40,14 +40,19 @@ numbered = put_int linked 0 0 77
 abbrev pub relinked : Store
 relinked = put_ref numbered 0 0 (held numbered.slots 2)
 
-pub started : (types : Table TypeInfo) (heap : HeapSeen) → types ≡ (1, pair) ∷ [] → heap ≡ heap_of (started_parts defaults types)
+pub started : (types : Table TypeInfo) (heap : HeapSeen) → types ≡ (1, pair) ∷ [] → IsFresh heap defaults types
     → StandsFor heap (empty_store defaults) → Runs pairs heap (newborns 0)
-started types heap is made stands =
-    subst (λ (t : Table TypeInfo). Runs (record { settings = defaults; types = t }) heap (newborns 0)) is (runs_started defaults types heap made stands)
+started types heap is fresh stands =
+    subst (λ (t : Table TypeInfo). Runs (record { settings = defaults; types = t }) heap (newborns 0)) is (runs_started defaults types heap fresh stands)
+
+none-pinned : (n : ℕ) → (newborns n).gapped ≡ false
+none-pinned zero = refl
+none-pinned (suc n) = none-pinned n
 
 pub bears_next : (n : ℕ) (old new : HeapSeen) (before after : List Line) → Runs pairs old (newborns n) → Bears old new (array_request n 1 0) before after
     → Runs pairs new (newborns (suc n))
-bears_next n old new before after runs bears = runs_born pairs pair old new (newborns n) (array_request n 1 0) before after refl runs bears
+bears_next n old new before after runs bears =
+    runs_born pairs pair old new (newborns n) (array_request n 1 0) before after refl (omega arith) (none-pinned n) runs bears
 
 pub can_first : (heap : HeapSeen) → Runs pairs heap (newborns 0) → CanBear heap 0 1 0
 unfolding is_above

@@ -1,11 +1,11 @@
 -- What is read from the words is what the store has.
-use Rattle.std.proofs.Common.{◌≡◌, ℕ, zero, suc, false, IsTrue, ◌==◌, List, [], ◌∷◌, map, Option, Some, None, option_map, refl, sym, ap, ap₂, ◌∙◌, inl, inr}
-use Rattle.std.specs.Prelude.{slice_index_or, option_and_then, if◌then◌else◌, filter, not}
+use Rattle.std.proofs.Common.{◌≡◌, ℕ, zero, suc, ◌+◌, false, IsTrue, ◌==◌, List, [], ◌∷◌, map, Option, Some, None, option_map, refl, sym, ap, ap₂, ◌∙◌, inl, inr, arith}
+use Rattle.std.specs.Prelude.{slice_index_or, option_and_then, if◌then◌else◌}
 use Rattle.std.proofs.lemmas.Bool.Decides.{eqb_tells}
 use Rattle.type_table.specs.declared.info.TypeInfo.{TypeInfo}
 use Rattle.type_table.specs.Table.{Table, value_at}
 use Rattle.store_model.specs.Object.{Object}
-use Rattle.store_model.specs.Store.{Store, object_at, kept_words, unsettled_words}
+use Rattle.store_model.specs.Store.{Store, object_at, kept_words, husk_words}
 use Rattle.store_model.specs.Sets.{is_in}
 use Rattle.store_model.specs.Slots.{held}
 use Rattle.store_model.specs.Shapes.{kind_of, kind_in}
@@ -21,6 +21,7 @@ use Rattle.heap_core.specs.Told.{word_in, place_in, kind_from, kind_at, told}
 use Rattle.heap_core.specs.StandsFor.{PartsStandFor}
 use Rattle.object_view.proofs.FoundLaws.{found-at, length-ints, length-refs}
 use Rattle.heap_core.proofs.SoundLaws.{pointer-some}
+use Rattle.heap_core.proofs.PlaceLaws.{placed_words}
 
 -- what a slot holds goes by the name of its place
 pub held-named : (slots : List ℕ) (name : ℕ → ℕ) (root : ℕ) → held (map (renamed name) slots) root ≡ renamed name (slice_index_or slots root 0)
@@ -65,14 +66,6 @@ held-in-none : (found : Option ℕ) → is_held_in found [] ≡ false
 held-in-none None = refl
 held-in-none (Some b) = refl
 
-all-pass : (kept : List Object) → filter (λ (o : Object). not (is_in o.birth [])) kept ≡ kept
-all-pass [] = refl
-all-pass (o ∷ kept) = ap (λ rest. o ∷ rest) (all-pass kept)
-
--- where nothing is settled, each object is in the nursery
-pub unsettled-none : (kept : List Object) → unsettled_words kept [] ≡ kept_words kept
-unsettled-none kept = ap kept_words (all-pass kept)
-
 -- a look at the store that the parts of a heap stand for sees what they tell
 pub look-told : (heap : HeapParts) (store : Store) → PartsStandFor heap store → look store ≡ told heap
 look-told heap store stands =
@@ -89,8 +82,10 @@ look-told heap store stands =
     ap (λ (s : Store). has_p_link s.structs (held store.slots root)) others in
     let structures : (number : ℕ) → state_of (value_at store.structs number) ≡ Absent = λ number.
     ap (λ (s : Store). state_of (value_at s.structs number)) others in
-    let kept : kept_words store.kept ≡ heap.unsettled =
-    sym (unsettled-none store.kept) ∙ (ap (λ (s : Store). unsettled_words store.kept s.settled) (sym others) ∙ sym stands.unsettled) in
+    let words = placed_words store.settled stands.objects stands.settled in
+    let husks : husk_words store.husks ≡ 0 = ap (λ (s : Store). husk_words s.husks) others in
+    let kept : kept_words store.kept ≡ heap.unsettled + heap.old_words =
+    omega (arith, words.all, words.unsettled, words.settled_are, stands.unsettled, stands.old_words, husks) in
     let same : look store ≡ told heap = λ i. record {
       kind = λ root. kinds root i;
       is_pinned = λ root. pinned root i;
@@ -98,6 +93,7 @@ look-told heap store stands =
       has_p_link = λ root. linked root i;
       structure = λ number. structures number i;
       unsettled = sym stands.unsettled i;
+      fresh = sym stands.fresh i;
       kept = kept i;
     } in
     same

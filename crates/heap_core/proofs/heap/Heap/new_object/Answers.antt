@@ -4,7 +4,7 @@ use Rattle.heap_core.specs.Seen.{seen}
 use Rattle.heap_core.specs.declared.heap.Heap.TheInside.{Inside}
 use Rattle.heap_core.specs.declared.heap.State.TheVariants.{Started}
 use Rattle.heap_core.proofs.Ready.{bear_ready}
-use Rattle.heap_core.proofs.BirthLaws.{bears}
+use Rattle.heap_core.proofs.BirthLaws.{bears, none_changes}
 use Rattle.heap_core.proofs.Calls.{in_state}
 use Rattle.heap_core.proofs.heap.Heap.new_object.Goals as goal
 use Rattle.heap_core.proofs.heap.Heap.new_object.Goals.{in-Started+in_ok-new_object-in-Started, in-Closed, in-Closed-2}
@@ -26,3 +26,8 @@ returns-clause-born c = elim c.match-self.branch [
   | in-Closed w ↦ rw w.result-is tt
   | in-Closed-2 w ↦ rw w.result-is tt
 ]
+
+pub returns-in_err-new_object-in-Started-clause-err : goal.returns-in_err-new_object-in-Started-clause-err
+returns-in_err-new_object-in-Started-clause-err c =
+    none_changes c.from_residual.result c.args.self.now c.in-Started.parts c.new_object.new.self
+    (in_state c.args.self.now c.self.inside.state (Started c.in-Started.parts) c.self.view_is c.in-Started.is) c.in_err-new_object-in-Started.ensures.err
