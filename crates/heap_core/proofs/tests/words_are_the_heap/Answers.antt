@@ -1,4 +1,4 @@
-use Rattle.heap_core.proofs.TestStores.{started, bears_next, links, writes, relinks, can_first, can_second, can_third, can_link, can_write, can_relink, can_get, can_use, can_tell, can_load, after_all}
+use Rattle.heap_core.proofs.TestStores.{started, bears_next, links, writes, can_first, can_second, can_third, can_link, can_write, can_relink, can_get, can_use, can_tell, can_load, after_all}
 use Rattle.heap_core.proofs.tests.words_are_the_heap.Goals as goal
 
 pub new_object-requires : goal.new_object-requires
