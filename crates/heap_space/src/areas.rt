@@ -1,7 +1,7 @@
 //! The three areas of places: the nursery from place 1 on, the arenas side by side from 2^32 on,
 //! and the large blocks from 2^40 on, each where the one added before it ended. A large block that
 //! was given back stays in its list without words, until the list is compacted.
-ghost use Rattle.std.specs.Prelude.{◌≡◌, ℕ, ◌+◌, ◌*◌, ◌^◌, ◌<◌, ◌≤◌, ◌⊎◌, List, [], ◌∷◌, ◌++◌, length, slice_index_or, nat_le, IfOk, IfErr, IsTrue};
+ghost use Rattle.std.specs.Prelude.{◌≡◌, ℕ, ◌+◌, ◌*◌, ◌^◌, ◌<◌, ◌≤◌, ◌⊎◌, List, [], ◌∷◌, ◌++◌, length, replicate, slice_index_or, nat_le, IfOk, IfErr, IsTrue};
 ghost use Rattle.heap_space.specs.Places.{Placed, covers, has, word_at, with_word, is_base, lies_in_one, run_at, with_run};
 ghost use Rattle.heap_space.specs.Memory.{fresh_memory, with_arena, with_large};
 ghost use Rattle.heap_space.specs.Order.{IsInOrder};
@@ -168,6 +168,20 @@ impl Areas {
         }
     }
 
+    /// The n words from a on are 0 from then on, and every other word stays.
+    pub(crate) fn fill_zero(&mut self, a: u64, n: u64)
+        requires { IsTrue (lies_in_one self.old.blocks a n) }
+        ensures { self.new ≡ record self.old { blocks = with_run self.old.blocks a (replicate n 0) } }
+    {
+        if n == 0 {
+            return;
+        }
+        let first = self.run_seat(a, n);
+        for k in 0..n {
+            self.set_word(first.after(k), 0);
+        }
+    }
+
     /// Whether a lies in a block.
     #[inline]
     pub(crate) fn has(&self, a: u64) -> bool
@@ -255,6 +269,7 @@ impl Areas {
 
 impl Seat {
     // The seat k places further on.
+    #[inline]
     fn after(self, k: u64) -> Seat
         requires { self.offset + k < 2 ^ 64 }
         ensures { result ≡ record { block = self.block; offset = self.offset + k } }

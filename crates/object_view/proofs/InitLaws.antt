@@ -1,5 +1,5 @@
 -- The words of a new object are written one after another.
-use Rattle.std.proofs.Common.{◌≡◌, ℕ, suc, ◌+◌, ◌-◌, ◌^◌, ◌<◌, ◌≤◌, ◌⊎◌, true, List, [], ◌∷◌, replicate, sym, ap, ap₂, ◌∙◌, inl, inr, arith}
+use Rattle.std.proofs.Common.{◌≡◌, ℕ, ◌+◌, ◌^◌, ◌<◌, ◌≤◌, ◌⊎◌, true, List, [], ◌∷◌, replicate, sym, ap, ap₂, ◌∙◌, inl, inr, arith}
 use Rattle.std.proofs.lemmas.Bool.Decides.{nat_tests}
 use Rattle.type_table.specs.declared.info.Shape.{Shape}
 use Rattle.type_table.specs.declared.info.Shape.TheVariants.{Fixed, IntArray, RefArray, Weak}
@@ -19,38 +19,6 @@ lies-part (p ∷ ps) a n b m lies l r = grind (arith, nat_tests, lies-part ps a 
 -- the memory with these blocks
 abbrev pub with_blocks : Memory → List Placed → Memory
 with_blocks m blocks = record m { blocks = blocks }
-
--- i of n words are cleared, and to clear those that are left gives what is wanted
-pub record Clears (first now : Memory) (from n i : ℕ) : Type 0 where
-  pub same : with_blocks now (with_run now.blocks (from + i) (replicate (n - i) 0)) ≡ with_blocks first (with_run first.blocks from (replicate n 0))
-  pub lies : lies_in_one now.blocks from n ≡ true
-  pub small : 0 < n → from + n < 2 ^ 63
-
-pub clears-none : (m : Memory) (from n : ℕ) → IsInOrder m → lies_in_one m.blocks from n ≡ true → Clears m m from n 0
-clears-none m from n o lies = record {
-  same = let e : from + 0 ≡ from = omega arith in let all : n - 0 ≡ n = omega arith in
-      ap (λ (j : ℕ). with_blocks m (with_run m.blocks (from + 0) (replicate j 0))) all ∙ ap (λ k. with_blocks m (with_run m.blocks k (replicate n 0))) e;
-  lies = lies;
-  small = λ some. (lies-fits m from n o some lies).1;
-}
-
-pub clears-more : (first now : Memory) (from n i : ℕ) → Clears first now from n i → i < n
-    → Clears first (with_blocks now (with_word now.blocks (from + i) 0)) from n (i + 1)
-clears-more first now from n i c l =
-    let k : ℕ = n - (i + 1) in let more : n - i ≡ suc k = omega arith in let next : from + (i + 1) ≡ (from + i) + 1 = omega arith in
-    record {
-      same = ap (λ b. with_blocks now (with_run (with_word now.blocks (from + i) 0) b (replicate k 0))) next
-          ∙ ap (with_blocks now) (with_run-step now.blocks (from + i) 0 (replicate k 0))
-          ∙ ap (λ (j : ℕ). with_blocks now (with_run now.blocks (from + i) (replicate j 0))) (sym more) ∙ c.same;
-      lies = lies-with_word now.blocks (from + i) 0 from n ∙ c.lies;
-      small = c.small;
-    }
-
-pub clears-all : (first now : Memory) (from n i : ℕ) → Clears first now from n i → n ≤ i
-    → now ≡ with_blocks first (with_run first.blocks from (replicate n 0))
-clears-all first now from n i c l =
-    let none : n - i ≡ 0 = omega arith in
-    sym (ap (λ (j : ℕ). with_blocks now (with_run now.blocks (from + i) (replicate j 0))) none ∙ ap (with_blocks now) (with_run-nil now.blocks (from + i))) ∙ c.same
 
 -- two and three words before a run
 pub run-two : (ps : List Placed) (a x y : ℕ) (xs : List ℕ) → with_run (with_word (with_word ps a x) (a + 1) y) (a + 2) xs ≡ with_run ps a (x ∷ (y ∷ xs))

@@ -1,6 +1,6 @@
 //! The words of a new object.
 
-ghost use Rattle.std.specs.Prelude.{◌≡◌, ◌+◌, IsTrue, replicate};
+ghost use Rattle.std.specs.Prelude.{◌≡◌, IsTrue};
 ghost use Rattle.type_table.specs.Words.{words_in};
 ghost use Rattle.heap_space.specs.Places.{lies_in_one, with_run};
 ghost use Rattle.object_view.specs.Births.{born_words};
@@ -20,23 +20,11 @@ pub fn init(space: &mut Space, a: u64, type_id: u16, birth: u64, info: TypeInfo,
     space.write(a, u64::from(type_id));
     space.write(a + 1, birth);
     match info.shape {
-        Shape::Fixed { ints, refs } => clear(space, a + 2, u64::from(ints) + u64::from(refs)),
+        Shape::Fixed { ints, refs } => space.fill_zero(a + 2, u64::from(ints) + u64::from(refs)),
         Shape::IntArray | Shape::RefArray => {
             space.write(a + 2, len);
-            clear(space, a + 3, len);
+            space.fill_zero(a + 3, len);
         }
         Shape::Weak => space.write(a + 2, 0),
-    }
-}
-
-// Writes 0 to the n words from the place `from` on.
-fn clear(space: &mut Space, from: u64, n: u64)
-    requires { IsTrue (lies_in_one space.old.blocks from n) }
-    ensures { space.new ≡ record space.old { blocks = with_run space.old.blocks from (replicate n 0) } }
-{
-    // The places of a space are below 2^63.
-    let _ordered = space.arena_words();
-    for i in 0..n {
-        space.write(from + i, 0);
     }
 }

@@ -16,8 +16,8 @@ write-requires-2 c = let r = has_room c.args.space.now c.args.info.shape c.args.
 pub overflow_add-a-in-Fixed : goal.overflow_add-a-in-Fixed
 overflow_add-a-in-Fixed c = let r = has_room c.args.space.now c.args.info.shape c.args.a c.args.len c.arena_words-ordered.ensures.ordered c.requires in omega (arith, r.some, r.fits)
 
-pub clear-requires : goal.clear-requires
-clear-requires c =
+pub fill_zero-requires : goal.fill_zero-requires
+fill_zero-requires c =
     let r = has_room c.args.space.now c.args.info.shape c.args.a c.args.len c.arena_words-ordered.ensures.ordered c.requires in
     let size = ap (λ s. words_in s c.args.len) c.in-Fixed.is in
     room-part (c.args.a + 2) (c.from-in-Fixed.result + c.from-in-Fixed-2.result) (room-writes c.write-2.new.self (c.args.a + 1) c.args.birth (room-writes c.write.new.self c.args.a c.from.result r c.write.ensures) c.write-2.ensures) (omega arith)
@@ -36,8 +36,8 @@ overflow_add-a-in-IntArray-2 c =
     let r = has_room c.args.space.now c.args.info.shape c.args.a c.args.len c.arena_words-ordered.ensures.ordered c.requires in
     omega (arith, (array-room c.args.info.shape c.args.len r c.in-IntArray.is).fits)
 
-pub clear-requires-in-IntArray : goal.clear-requires-in-IntArray
-clear-requires-in-IntArray c =
+pub fill_zero-requires-in-IntArray : goal.fill_zero-requires-in-IntArray
+fill_zero-requires-in-IntArray c =
     let r = has_room c.args.space.now c.args.info.shape c.args.a c.args.len c.arena_words-ordered.ensures.ordered c.requires in
     let wrote = (room-writes c.write-2.new.self (c.args.a + 1) c.args.birth (room-writes c.write.new.self c.args.a c.from.result r c.write.ensures) c.write-2.ensures) in
     (array-room c.args.info.shape c.args.len (room-writes c.write-in-IntArray.new.self (c.args.a + 2) c.args.len wrote c.write-in-IntArray.ensures) c.in-IntArray.is).items
@@ -53,17 +53,17 @@ write-requires-in-Weak c =
 
 pub returns-in-Fixed : goal.returns-in-Fixed
 returns-in-Fixed c =
-    writes-two c.args.space.now c.write.new.self c.write-2.new.self c.clear.new.space c.args.a c.from.result c.args.type_id c.args.birth
+    writes-two c.args.space.now c.write.new.self c.write-2.new.self c.fill_zero.new.self c.args.a c.from.result c.args.type_id c.args.birth
     (replicate (c.from-in-Fixed.result + c.from-in-Fixed-2.result) 0) (born_rest c.args.info.shape c.args.len)
-    c.write.ensures c.write-2.ensures c.clear.ensures c.from.ensures
+    c.write.ensures c.write-2.ensures c.fill_zero.ensures c.from.ensures
     (ap₂ (λ i r. replicate (i + r) 0) c.from-in-Fixed.ensures c.from-in-Fixed-2.ensures ∙ sym (ap (λ s. born_rest s c.args.len) c.in-Fixed.is))
 
 pub returns-in-IntArray : goal.returns-in-IntArray
 returns-in-IntArray c =
-    writes-two c.args.space.now c.write.new.self c.write-2.new.self c.clear-in-IntArray.new.space c.args.a c.from.result c.args.type_id c.args.birth
+    writes-two c.args.space.now c.write.new.self c.write-2.new.self c.fill_zero-in-IntArray.new.self c.args.a c.from.result c.args.type_id c.args.birth
     (c.args.len ∷ replicate c.args.len 0) (born_rest c.args.info.shape c.args.len)
     c.write.ensures c.write-2.ensures
-    (writes-more c.write-2.new.self c.write-in-IntArray.new.self c.clear-in-IntArray.new.space c.args.a c.args.len (replicate c.args.len 0) c.write-in-IntArray.ensures c.clear-in-IntArray.ensures)
+    (writes-more c.write-2.new.self c.write-in-IntArray.new.self c.fill_zero-in-IntArray.new.self c.args.a c.args.len (replicate c.args.len 0) c.write-in-IntArray.ensures c.fill_zero-in-IntArray.ensures)
     c.from.ensures (sym (array-rest c.args.info.shape c.args.len c.in-IntArray.is))
 
 pub returns-in-Weak : goal.returns-in-Weak
