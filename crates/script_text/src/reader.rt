@@ -35,6 +35,11 @@ pub enum ReadEnd {
 }
 
 impl fmt::Display for ReadEnd {
+    ghost use Rattle.std.specs.Prelude.{Some};
+    ghost use Rattle.script_text.specs.Reading.{end_text};
+
+    ghost output = { λ end. Some (end_text end) };
+
     fn fmt<W: fmt::Write>(&self, f: &mut fmt::Formatter<W>) -> fmt::Result {
         f.write_str(match self {
             ReadEnd::TooMany => "too many lines",
