@@ -7,12 +7,13 @@ use Rattle.type_table.specs.Table.{value_at}
 use Rattle.type_table.specs.Words.{words_in}
 use Rattle.heap_space.specs.Places.{lies_in_one}
 use Rattle.old_space.proofs.JoinLaws.{HasBlocks-first}
-use Rattle.store_model.specs.declared.line.Line.{Line}
-use Rattle.store_model.specs.declared.line.Line.TheVariants.{Born}
-use Rattle.store_model.specs.Setup.{Setup}
+use Rattle.text_model.specs.declared.line.Line.{Line}
+use Rattle.text_model.specs.declared.line.Line.TheVariants.{Born}
+use Rattle.object_model.specs.Setup.{Setup}
 use Rattle.store_model.specs.Store.{Store}
 use Rattle.store_model.specs.Steps.{array_request}
-use Rattle.store_model.specs.Birth.{Request, with_birth, BirthOf, BirthOfType}
+use Rattle.object_model.specs.Newborn.{Request}
+use Rattle.store_model.specs.Birth.{with_birth, BirthOf, BirthOfType}
 use Rattle.heap_core.specs.Parts.{HeapParts, HeapSeen, heap_of}
 use Rattle.heap_core.specs.StandsFor.{PartsStandFor}
 use Rattle.heap_core.specs.Effects.{HasRoom, HasYoungRoom, HasOldRoom, TakesBlock, TakesNone, BearsOld, IsFitting, FitsOf, is_large, BearsWhere, BearsOf, with_newborn}

@@ -2,7 +2,7 @@
 use Rattle.std.proofs.Common.{◌≡◌, ℕ, ◌+◌, ◌<◌, ◌≤◌, false, IsTrue, List, [], ◌∷◌, ◌++◌, map, nat_eq, refl, sym, ap, ◌∙◌, subst, inl, inr, arith}
 use Rattle.std.specs.List.{IsDistinct, AllByRecursion}
 use Rattle.std.proofs.lemmas.Bool.{ne_eqb}
-use Rattle.store_model.specs.Sets.{is_in}
+use Rattle.object_model.specs.Sets.{is_in}
 use Rattle.object_view.proofs.WordLaws.{is_in-head, is_in-tail, is_in-cases, is_in-nil}
 use Rattle.heap_core.specs.StandsFor.{RiseBetween}
 

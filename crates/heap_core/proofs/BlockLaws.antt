@@ -18,8 +18,8 @@ use Rattle.object_view.proofs.WordLaws.{is_in-cases, is_in-nil, map-same}
 use Rattle.old_space.specs.HasBlocks.{HasBlocks}
 use Rattle.old_space.specs.declared.Old.{Old}
 use Rattle.old_space.proofs.JoinLaws.{HasBlocks_untouched, HasBlocks_permuted}
-use Rattle.store_model.specs.Layout.{Layout}
-use Rattle.store_model.specs.Sets.{is_in}
+use Rattle.object_model.specs.Layout.{Layout}
+use Rattle.object_model.specs.Sets.{is_in}
 use Rattle.heap_core.specs.StandsFor.{block_at, IsPlainHeader}
 use Rattle.heap_core.proofs.SameLayouts.{SameLayouts}
 

@@ -1,6 +1,6 @@
 -- A call of a heap by what its state is: closed, started or spent.
 use Rattle.std.proofs.Common.{◌≡◌, ◌⊎◌, Bool, true, false, Option, Some, None, refl, sym, ap, ◌∙◌, subst, inl, inr}
-use Rattle.store_model.specs.declared.command.Command.{Command}
+use Rattle.text_model.specs.declared.command.Command.{Command}
 use Rattle.std.specs.Prelude.{IsSome}
 use Rattle.store_model.specs.Store.{Store}
 use Rattle.store_model.specs.Look.{look}

@@ -15,18 +15,19 @@ use Rattle.object_view.proofs.WordLaws.{is_in-cases, is_in-nil}
 use Rattle.object_view.proofs.LayoutLaws.{laid_out}
 use Rattle.object_view.proofs.FoundLaws.{int-from, ref-from, type-from}
 use Rattle.object_view.proofs.FrameLaws.{none_hold}
-use Rattle.store_model.specs.declared.command.Command.TheVariants.{Put, Link, Load}
-use Rattle.store_model.specs.declared.kind.Kind.{Kind}
-use Rattle.store_model.specs.declared.settings.Settings.{Settings}
-use Rattle.store_model.specs.Setup.{small_words}
-use Rattle.store_model.specs.Object.{Object}
-use Rattle.store_model.specs.Store.{Store, object_at, empty_store, kept_words, husk_words}
-use Rattle.store_model.specs.Sets.{is_in}
-use Rattle.store_model.specs.Slots.{held, object_in, put_in_slot, is_same, ints_of, refs_of, ref_in}
+use Rattle.text_model.specs.declared.command.Command.TheVariants.{Put, Link, Load}
+use Rattle.object_model.specs.declared.kind.Kind.{Kind}
+use Rattle.object_model.specs.declared.settings.Settings.{Settings}
+use Rattle.object_model.specs.Setup.{small_words}
+use Rattle.object_model.specs.Object.{Object, object_at, kept_words}
+use Rattle.store_model.specs.Store.{Store, empty_store, husk_words}
+use Rattle.object_model.specs.Sets.{is_in}
+use Rattle.store_model.specs.Slots.{held, object_in, put_in_slot, is_same}
+use Rattle.object_model.specs.Fields.{ints_of, refs_of, ref_in}
 use Rattle.store_model.specs.Steps.{int_at, ref_at, put_int, put_ref}
-use Rattle.store_model.specs.Checks.{AreInRange}
-use Rattle.store_model.specs.ObjectWords.{renamed, object_from, type_id_at}
-use Rattle.store_model.specs.Holds.{HoldsObjects, IsPointer}
+use Rattle.object_model.specs.SettingRanges.{AreInRange}
+use Rattle.object_model.specs.ObjectWords.{renamed, object_from, type_id_at}
+use Rattle.object_model.specs.Holds.{HoldsObjects, IsPointer}
 use Rattle.heap_core.specs.Parts.{HeapParts, heap_of, started_parts, AreFresh}
 use Rattle.heap_core.specs.Told.{word_in, place_in, kind_at}
 use Rattle.heap_core.specs.StandsFor.{PartsStandFor, HoldsSlots}

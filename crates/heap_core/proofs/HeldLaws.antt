@@ -14,11 +14,12 @@ use Rattle.object_view.proofs.WordLaws.{is_in-head, is_in-tail, is_in-append, is
 use Rattle.object_view.proofs.LayoutLaws.{SameAt, keeps-same}
 use Rattle.object_view.proofs.NewbornLaws.{BornAt, IsFree, birth_holds, names-agree, length-born_words, request_of}
 use Rattle.object_view.proofs.WholeLaws.{born-written, has_object-born, has_object-keeps}
-use Rattle.store_model.specs.Birth.{newborn, with_birth}
+use Rattle.object_model.specs.Newborn.{newborn}
+use Rattle.store_model.specs.Birth.{with_birth}
 use Rattle.store_model.specs.Store.{Store}
-use Rattle.store_model.specs.Sets.{is_in}
-use Rattle.store_model.specs.ObjectWords.{renamed, updated}
-use Rattle.store_model.specs.Holds.{HoldsObjects, IsPointer}
+use Rattle.object_model.specs.Sets.{is_in}
+use Rattle.object_model.specs.ObjectWords.{renamed, updated}
+use Rattle.object_model.specs.Holds.{HoldsObjects, IsPointer}
 use Rattle.heap_core.specs.Parts.{HeapParts}
 use Rattle.heap_core.specs.Told.{word_in}
 use Rattle.heap_core.specs.StandsFor.{PartsStandFor, HoldsSlots, AreWhole, RiseBetween}

@@ -13,10 +13,10 @@ use Rattle.object_view.proofs.FrameLaws.{outside_holds}
 use Rattle.old_space.specs.HasBlocks.{HasBlocks, IsBlock, greatest_small}
 use Rattle.old_space.specs.declared.Old.{Old}
 use Rattle.old_space.proofs.JoinLaws.{HasBlocks-blocks}
-use Rattle.store_model.specs.Layout.{Layout}
+use Rattle.object_model.specs.Layout.{Layout}
 use Rattle.store_model.specs.Store.{Store}
-use Rattle.store_model.specs.Sets.{is_in}
-use Rattle.store_model.specs.ObjectWords.{words_at}
+use Rattle.object_model.specs.Sets.{is_in}
+use Rattle.object_model.specs.ObjectWords.{words_at}
 use Rattle.heap_core.specs.Parts.{HeapParts}
 use Rattle.heap_core.specs.Told.{word_in}
 use Rattle.heap_core.specs.StandsFor.{PartsStandFor, HoldsNursery, IsPlainHeader, is_young, young_places, old_places, block_at}

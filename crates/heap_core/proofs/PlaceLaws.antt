@@ -10,11 +10,11 @@ use Rattle.object_view.proofs.WordLaws.{is_in-head, is_in-tail, is_in-cases, is_
 use Rattle.object_view.proofs.LayoutLaws.{birth-from}
 use Rattle.object_view.proofs.FoundLaws.{kept_words-held}
 use Rattle.object_view.proofs.SurvivorLaws.{filter-part, filter-member, part_holds}
-use Rattle.store_model.specs.Object.{Object}
-use Rattle.store_model.specs.Store.{kept_words, unsettled_words, settled_words}
-use Rattle.store_model.specs.Sets.{is_in}
-use Rattle.store_model.specs.ObjectWords.{object_from, words_at}
-use Rattle.store_model.specs.Holds.{HoldsObjects}
+use Rattle.object_model.specs.Object.{Object, kept_words}
+use Rattle.store_model.specs.Store.{unsettled_words, settled_words}
+use Rattle.object_model.specs.Sets.{is_in}
+use Rattle.object_model.specs.ObjectWords.{object_from, words_at}
+use Rattle.object_model.specs.Holds.{HoldsObjects}
 use Rattle.heap_core.specs.StandsFor.{is_young, young_places, old_places}
 use Rattle.heap_core.proofs.Births.{is_in-named}
 

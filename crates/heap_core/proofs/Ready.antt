@@ -5,12 +5,12 @@ use Rattle.std.proofs.lemmas.Bool.{ltb-false, leb-false}
 use Rattle.std.proofs.lemmas.Bool.Decides.{eqb_tells}
 use Rattle.type_table.specs.declared.info.TypeInfo.{TypeInfo}
 use Rattle.type_table.specs.Table.{Table, value_at}
-use Rattle.store_model.specs.declared.command.Command.TheVariants.{NewFixed, NewArray, Put, Get, Link, Load, MoveRoot, DropRoot}
-use Rattle.store_model.specs.declared.kind.Kind.{Kind}
-use Rattle.store_model.specs.declared.item.Reason.{Reason}
-use Rattle.store_model.specs.declared.item.Reason.TheVariants.{NotBuilt, NoRoot, WrongShape, NoItem, Range}
-use Rattle.store_model.specs.Range.{is_above, is_above_ids, is_above_items}
-use Rattle.store_model.specs.Shapes.{holds_ints, holds_refs, is_fixed_shape, is_array_shape}
+use Rattle.text_model.specs.declared.command.Command.TheVariants.{NewFixed, NewArray, Put, Get, Link, Load, MoveRoot, DropRoot}
+use Rattle.object_model.specs.declared.kind.Kind.{Kind}
+use Rattle.text_model.specs.declared.item.Reason.{Reason}
+use Rattle.text_model.specs.declared.item.Reason.TheVariants.{NotBuilt, NoRoot, WrongShape, NoItem, Range}
+use Rattle.text_model.specs.Range.{is_above, is_above_ids, is_above_items}
+use Rattle.object_model.specs.Shapes.{holds_ints, holds_refs, is_fixed_shape, is_array_shape}
 use Rattle.store_model.specs.Checks.{first_reason, born_checks, room_checks, type_words, int_checks, ref_checks}
 use Rattle.type_table.specs.declared.info.Shape.{Shape}
 use Rattle.type_table.specs.Words.{words_in}

@@ -4,15 +4,16 @@ use Rattle.std.specs.Prelude.{IsSome}
 use Rattle.type_table.specs.declared.info.TypeInfo.{TypeInfo}
 use Rattle.type_table.specs.Table.{Table}
 use Rattle.type_table.specs.Words.{words_in}
-use Rattle.store_model.specs.declared.command.Command.{Command}
-use Rattle.store_model.specs.declared.settings.Settings.{Settings}
-use Rattle.store_model.specs.declared.line.Line.{Line}
-use Rattle.store_model.specs.Setup.{Setup, young_words, type_at}
+use Rattle.text_model.specs.declared.command.Command.{Command}
+use Rattle.object_model.specs.declared.settings.Settings.{Settings}
+use Rattle.text_model.specs.declared.line.Line.{Line}
+use Rattle.object_model.specs.Setup.{Setup, young_words, type_at}
 use Rattle.store_model.specs.Store.{Store, empty_store}
 use Rattle.store_model.specs.Checks.{first_reason}
 use Rattle.store_model.specs.Look.{Look, look}
 use Rattle.store_model.specs.Refusal.{command_checks}
-use Rattle.store_model.specs.Birth.{Request, Birth, BirthOfType, with_birth}
+use Rattle.object_model.specs.Newborn.{Request}
+use Rattle.store_model.specs.Birth.{Birth, BirthOfType, with_birth}
 use Rattle.heap_core.specs.Parts.{HeapParts, HeapSeen}
 use Rattle.heap_core.specs.StandsFor.{StandsFor, StandsForIf}
 use Rattle.heap_core.specs.Commands.{AreStanding, IsStanding, CanDo, CanDoIf, OfParts, IsFresh, Changes, Bears, setup_in, told_if, told_by}

@@ -8,9 +8,9 @@ use Rattle.heap_space.specs.Places.{lies_in_one, word_at}
 use Rattle.heap_space.specs.Memory.{Memory}
 use Rattle.object_view.proofs.WordLaws.{is_in-head, is_in-tail}
 use Rattle.object_view.proofs.LayoutLaws.{KeepsLayout}
-use Rattle.store_model.specs.Sets.{is_in}
-use Rattle.store_model.specs.Layout.{Layout}
-use Rattle.store_model.specs.ObjectWords.{words_at}
+use Rattle.object_model.specs.Sets.{is_in}
+use Rattle.object_model.specs.Layout.{Layout}
+use Rattle.object_model.specs.ObjectWords.{words_at}
 use Rattle.heap_core.specs.StandsFor.{IsWalk, AreWhole}
 
 -- the words v have the layouts of the words w at these places

@@ -7,14 +7,14 @@ use Rattle.type_table.specs.declared.info.TypeInfo.{TypeInfo}
 use Rattle.type_table.specs.declared.info.Shape.{Shape}
 use Rattle.type_table.specs.declared.info.Shape.TheVariants.{Fixed, IntArray, RefArray, Weak}
 use Rattle.type_table.specs.Table.{Table}
-use Rattle.store_model.specs.declared.settings.Settings.{Settings}
-use Rattle.store_model.specs.Object.{Object, referents}
-use Rattle.store_model.specs.Store.{Store, object_at}
-use Rattle.store_model.specs.Sets.{is_in}
+use Rattle.object_model.specs.declared.settings.Settings.{Settings}
+use Rattle.object_model.specs.Object.{Object, referents, object_at}
+use Rattle.store_model.specs.Store.{Store}
+use Rattle.object_model.specs.Sets.{is_in}
 use Rattle.store_model.specs.Roots.{is_kept, referents_in, target_in, roots_of}
 use Rattle.store_model.specs.Sound.{IsSound, AreFieldsKept, births_in}
-use Rattle.store_model.specs.ObjectWords.{words_from, renamed, object_from, layout_at, info_at, target_of}
-use Rattle.store_model.specs.Holds.{HoldsObjects, IsPointer}
+use Rattle.object_model.specs.ObjectWords.{words_from, renamed, object_from, layout_at, info_at, target_of}
+use Rattle.object_model.specs.Holds.{HoldsObjects, IsPointer}
 use Rattle.object_view.proofs.WordLaws.{is_in-head, is_in-tail, is_in-cases, is_in-nil}
 use Rattle.object_view.proofs.LayoutLaws.{laid_out, weak-at, birth-from}
 use Rattle.object_view.proofs.FoundLaws.{StandsAt, found-at, stands-found, refs-from}

@@ -12,15 +12,16 @@ use Rattle.object_view.proofs.LayoutLaws.{laid_out}
 use Rattle.object_view.proofs.SpaceLaws.{word_at-written, lies-at}
 use Rattle.object_view.proofs.ChangeLaws.{each-keeps, changes-updated}
 use Rattle.object_view.proofs.FieldLaws.{int_holds, ref_holds}
-use Rattle.store_model.specs.declared.settings.Settings.{Settings}
-use Rattle.store_model.specs.Object.{Object}
+use Rattle.object_model.specs.declared.settings.Settings.{Settings}
+use Rattle.object_model.specs.Object.{Object}
 use Rattle.store_model.specs.Store.{Store, unsettled_words, settled_words, husk_words}
-use Rattle.store_model.specs.Sets.{is_in}
-use Rattle.store_model.specs.Slots.{held, put_in_slot, changed_at, with_int, with_ref}
+use Rattle.object_model.specs.Sets.{is_in}
+use Rattle.store_model.specs.Slots.{held, put_in_slot}
+use Rattle.object_model.specs.Fields.{changed_at, with_int, with_ref}
 use Rattle.store_model.specs.Steps.{put_int}
 use Rattle.store_model.specs.Sound.{IsSound}
-use Rattle.store_model.specs.ObjectWords.{renamed, updated, words_at}
-use Rattle.store_model.specs.Holds.{HoldsObjects, IsPointer}
+use Rattle.object_model.specs.ObjectWords.{renamed, updated, words_at}
+use Rattle.object_model.specs.Holds.{HoldsObjects, IsPointer}
 use Rattle.heap_core.specs.Parts.{HeapParts}
 use Rattle.heap_core.specs.Told.{word_in, place_in}
 use Rattle.heap_core.specs.StandsFor.{PartsStandFor, HoldsSlots, RiseBetween, young_places, old_places, plain_store}

@@ -4,10 +4,10 @@ use Rattle.std.specs.Prelude.{IsSome}
 use Rattle.type_table.specs.declared.info.TypeInfo.{TypeInfo}
 use Rattle.type_table.specs.declared.info.Shape.TheVariants.{Fixed}
 use Rattle.type_table.specs.Table.{Table}
-use Rattle.store_model.specs.declared.command.Command.TheVariants.{NewFixed, Put, Get, Link, Load, Used}
-use Rattle.store_model.specs.declared.line.Line.{Line}
-use Rattle.store_model.specs.Range.{is_above}
-use Rattle.store_model.specs.Setup.{Setup, defaults}
+use Rattle.text_model.specs.declared.command.Command.TheVariants.{NewFixed, Put, Get, Link, Load, Used}
+use Rattle.text_model.specs.declared.line.Line.{Line}
+use Rattle.text_model.specs.Range.{is_above}
+use Rattle.object_model.specs.Setup.{Setup, defaults}
 use Rattle.store_model.specs.Slots.{held}
 use Rattle.store_model.specs.Store.{Store, empty_store}
 use Rattle.store_model.specs.Birth.{with_birth}

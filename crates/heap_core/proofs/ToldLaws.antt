@@ -4,17 +4,17 @@ use Rattle.std.specs.Prelude.{slice_index_or, option_and_then, if◌then◌else�
 use Rattle.std.proofs.lemmas.Bool.Decides.{eqb_tells}
 use Rattle.type_table.specs.declared.info.TypeInfo.{TypeInfo}
 use Rattle.type_table.specs.Table.{Table, value_at}
-use Rattle.store_model.specs.Object.{Object}
-use Rattle.store_model.specs.Store.{Store, object_at, kept_words, husk_words}
-use Rattle.store_model.specs.Sets.{is_in}
-use Rattle.store_model.specs.Slots.{held}
-use Rattle.store_model.specs.Shapes.{kind_of, kind_in}
+use Rattle.object_model.specs.Object.{Object, object_at, kept_words}
+use Rattle.store_model.specs.Store.{Store, husk_words}
+use Rattle.object_model.specs.Sets.{is_in}
+use Rattle.store_model.specs.Slots.{held, kind_in}
+use Rattle.object_model.specs.Shapes.{kind_of}
 use Rattle.store_model.specs.StructChecks.{has_p_link}
 use Rattle.store_model.specs.Structs.{state_of}
-use Rattle.store_model.specs.declared.structure.StructState.TheVariants.{Absent}
+use Rattle.object_model.specs.declared.structure.StructState.TheVariants.{Absent}
 use Rattle.store_model.specs.Look.{look, is_held_in}
-use Rattle.store_model.specs.ObjectWords.{renamed, object_from, layout_at}
-use Rattle.store_model.specs.Holds.{HoldsObjects, IsPointer}
+use Rattle.object_model.specs.ObjectWords.{renamed, object_from, layout_at}
+use Rattle.object_model.specs.Holds.{HoldsObjects, IsPointer}
 use Rattle.object_view.proofs.WordLaws.{is_in-head, is_in-tail}
 use Rattle.heap_core.specs.Parts.{HeapParts}
 use Rattle.heap_core.specs.Told.{word_in, place_in, kind_from, kind_at, told}

@@ -14,10 +14,10 @@ use Rattle.old_space.specs.declared.Old.{Old}
 use Rattle.old_space.proofs.JoinLaws.{HasBlocks_untouched}
 use Rattle.object_view.proofs.WordLaws.{updated-other}
 use Rattle.object_view.proofs.LayoutLaws.{KeepsLayout, laid_out}
-use Rattle.store_model.specs.Object.{Object}
-use Rattle.store_model.specs.Sets.{is_in}
-use Rattle.store_model.specs.ObjectWords.{updated, words_at, Covers}
-use Rattle.store_model.specs.Holds.{HoldsObjects}
+use Rattle.object_model.specs.Object.{Object}
+use Rattle.object_model.specs.Sets.{is_in}
+use Rattle.object_model.specs.ObjectWords.{updated, words_at, Covers}
+use Rattle.object_model.specs.Holds.{HoldsObjects}
 use Rattle.heap_core.specs.StandsFor.{is_young, old_places, young_places, block_at, IsPlainHeader, HoldsBlocks, HoldsNursery}
 use Rattle.heap_core.proofs.PlaceLaws.{is_in-old, is_in-young, old-is_in}
 use Rattle.heap_core.proofs.BlockLaws.{each-member, blocks-same}

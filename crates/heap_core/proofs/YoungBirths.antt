@@ -16,8 +16,8 @@ use Rattle.object_view.proofs.NewbornLaws.{born-is, free-unmet, request_of, leng
 use Rattle.old_space.specs.HasBlocks.{HasBlocks}
 use Rattle.store_model.specs.Birth.{with_birth}
 use Rattle.store_model.specs.Store.{Store}
-use Rattle.store_model.specs.Sets.{is_in}
-use Rattle.store_model.specs.ObjectWords.{updated, words_at, Covers}
+use Rattle.object_model.specs.Sets.{is_in}
+use Rattle.object_model.specs.ObjectWords.{updated, words_at, Covers}
 use Rattle.heap_core.specs.Parts.{HeapParts}
 use Rattle.heap_core.specs.Told.{word_in}
 use Rattle.heap_core.specs.StandsFor.{PartsStandFor, HoldsNursery, HoldsBlocks, IsPlainHeader, is_young, young_places, old_places, block_at, plain_store}

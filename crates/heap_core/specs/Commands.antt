@@ -2,17 +2,18 @@
 use Rattle.std.specs.Prelude.{◌≡◌, ℕ, Bool, true, false, List, ◌++◌, Option, Some, None, option_map, Result, Ok, Err, ◌⊎◌}
 use Rattle.type_table.specs.declared.info.TypeInfo.{TypeInfo}
 use Rattle.type_table.specs.Table.{Table, value_at}
-use Rattle.store_model.specs.declared.command.Command.{Command}
-use Rattle.store_model.specs.declared.command.Command.TheVariants.{NewFixed, NewArray}
-use Rattle.store_model.specs.declared.line.Line.{Line}
-use Rattle.store_model.specs.declared.settings.Settings.{Settings}
-use Rattle.store_model.specs.declared.structure.StructState.TheVariants.{Absent}
-use Rattle.store_model.specs.Setup.{Setup}
+use Rattle.text_model.specs.declared.command.Command.{Command}
+use Rattle.text_model.specs.declared.command.Command.TheVariants.{NewFixed, NewArray}
+use Rattle.text_model.specs.declared.line.Line.{Line}
+use Rattle.object_model.specs.declared.settings.Settings.{Settings}
+use Rattle.object_model.specs.declared.structure.StructState.TheVariants.{Absent}
+use Rattle.object_model.specs.Setup.{Setup}
 use Rattle.store_model.specs.Store.{Store}
 use Rattle.store_model.specs.Checks.{first_reason}
 use Rattle.store_model.specs.Look.{Look}
 use Rattle.store_model.specs.Refusal.{command_checks}
-use Rattle.store_model.specs.Birth.{Request, Birth}
+use Rattle.object_model.specs.Newborn.{Request}
+use Rattle.store_model.specs.Birth.{Birth}
 use Rattle.heap_core.specs.declared.fault.HeapFault.{HeapFault}
 use Rattle.heap_core.specs.declared.fault.HeapFault.TheVariants.{Spent, OutOfMemory}
 use Rattle.heap_core.specs.Parts.{HeapParts, HeapSeen, heap_of, AreFresh}

@@ -9,11 +9,11 @@ use Rattle.old_space.specs.HasBlocks.{HasBlocks, Stands, greatest_small}
 use Rattle.old_space.specs.declared.Old.{Old}
 use Rattle.object_view.specs.Views.{HasObject}
 use Rattle.object_view.specs.Births.{born_words}
-use Rattle.store_model.specs.ObjectWords.{layout_at}
-use Rattle.store_model.specs.Layout.{Layout}
-use Rattle.store_model.specs.Setup.{young_words}
-use Rattle.store_model.specs.declared.line.Line.{Line}
-use Rattle.store_model.specs.declared.line.Line.TheVariants.{Born}
+use Rattle.object_model.specs.ObjectWords.{layout_at}
+use Rattle.object_model.specs.Layout.{Layout}
+use Rattle.object_model.specs.Setup.{young_words}
+use Rattle.text_model.specs.declared.line.Line.{Line}
+use Rattle.text_model.specs.declared.line.Line.TheVariants.{Born}
 use Rattle.heap_core.specs.Parts.{HeapParts}
 use Rattle.heap_core.specs.Told.{word_in, place_in}
 

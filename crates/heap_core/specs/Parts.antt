@@ -3,8 +3,8 @@ use Rattle.std.specs.Prelude.{◌≡◌, ℕ, ◌*◌, Bool, true, false, List, 
 use Rattle.type_table.specs.declared.info.TypeInfo.{TypeInfo}
 use Rattle.type_table.specs.Table.{Table}
 use Rattle.heap_space.specs.Memory.{Memory, fresh_memory}
-use Rattle.store_model.specs.declared.settings.Settings.{Settings}
-use Rattle.store_model.specs.Setup.{Setup, small_words}
+use Rattle.object_model.specs.declared.settings.Settings.{Settings}
+use Rattle.object_model.specs.Setup.{Setup, small_words}
 use Rattle.old_space.specs.HasBlocks.{HasBlocks, greatest_small}
 use Rattle.old_space.specs.declared.Old.{Old}
 

@@ -8,14 +8,14 @@ use Rattle.heap_space.specs.Extents.{Extent}
 use Rattle.object_header.specs.Words.{IsHeader, has_flag}
 use Rattle.object_header.specs.declared.flags.Flag.TheVariants.{Free, Shadow, Order1, Order2}
 use Rattle.object_view.specs.Views.{HasObject}
-use Rattle.store_model.specs.declared.settings.Settings.{Settings}
-use Rattle.store_model.specs.Checks.{AreInRange}
-use Rattle.store_model.specs.Sets.{is_in}
-use Rattle.store_model.specs.Object.{Object}
-use Rattle.store_model.specs.Setup.{small_words}
+use Rattle.object_model.specs.declared.settings.Settings.{Settings}
+use Rattle.object_model.specs.SettingRanges.{AreInRange}
+use Rattle.object_model.specs.Sets.{is_in}
+use Rattle.object_model.specs.Object.{Object}
+use Rattle.object_model.specs.Setup.{small_words}
 use Rattle.store_model.specs.Store.{Store, empty_store, unsettled_words, old_words}
-use Rattle.store_model.specs.ObjectWords.{renamed, words_at}
-use Rattle.store_model.specs.Holds.{HoldsObjects, IsPointer}
+use Rattle.object_model.specs.ObjectWords.{renamed, words_at}
+use Rattle.object_model.specs.Holds.{HoldsObjects, IsPointer}
 use Rattle.store_model.specs.Sound.{IsSound}
 use Rattle.old_space.specs.HasBlocks.{HasBlocks, greatest_small}
 use Rattle.old_space.specs.declared.Old.{Old}

@@ -5,9 +5,9 @@ use Rattle.type_table.specs.declared.info.Shape.TheVariants.{IntArray, RefArray}
 use Rattle.type_table.specs.declared.info.TypeInfo.{TypeInfo}
 use Rattle.type_table.specs.Table.{Table}
 use Rattle.heap_space.specs.Places.{word_at}
-use Rattle.store_model.specs.declared.kind.Kind.{Kind}
-use Rattle.store_model.specs.declared.structure.StructState.TheVariants.{Absent}
-use Rattle.store_model.specs.ObjectWords.{info_at, layout_at}
+use Rattle.object_model.specs.declared.kind.Kind.{Kind}
+use Rattle.object_model.specs.declared.structure.StructState.TheVariants.{Absent}
+use Rattle.object_model.specs.ObjectWords.{info_at, layout_at}
 use Rattle.store_model.specs.Look.{Look}
 use Rattle.heap_core.specs.Parts.{HeapParts}
 

@@ -1,10 +1,11 @@
 //! A heap: closed, started with its parts, or spent.
 ghost use Rattle.std.specs.Prelude.{◌≡◌, ◌≤◌, IsTrue, IsSome, IsSomeAnd, is_some, None, Ok, Err, OnOk, OnErr, IfErr};
-ghost use Rattle.store_model.specs.declared.command.Command.TheVariants.{Put, Get, Link, Load, MoveRoot, DropRoot, Same, Used};
+ghost use Rattle.text_model.specs.declared.command.Command.TheVariants.{Put, Get, Link, Load, MoveRoot, DropRoot, Same, Used};
 ghost use Rattle.store_model.specs.Slots.{held, object_in, put_in_slot, is_same};
-ghost use Rattle.store_model.specs.Store.{Store, empty_store, kept_words, husk_words};
+ghost use Rattle.store_model.specs.Store.{Store, empty_store, husk_words};
+ghost use Rattle.object_model.specs.Object.{kept_words};
 ghost use Rattle.store_model.specs.Steps.{int_at, ref_at, put_int, put_ref, array_request};
-ghost use Rattle.store_model.specs.Checks.{AreInRange};
+ghost use Rattle.object_model.specs.SettingRanges.{AreInRange};
 ghost use Rattle.heap_core.specs.declared.fault.HeapFault.TheVariants.{Spent, OutOfMemory};
 ghost use Rattle.heap_core.specs.Parts.{closed_heap};
 ghost use Rattle.heap_core.specs.Told.{items_of};

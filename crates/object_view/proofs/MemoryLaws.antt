@@ -4,12 +4,12 @@ use Rattle.type_table.specs.declared.info.Shape.TheVariants.{Weak}
 use Rattle.type_table.specs.declared.info.TypeInfo.{TypeInfo}
 use Rattle.type_table.specs.Table.{Table, value_at}
 use Rattle.type_table.specs.Words.{words_in}
-use Rattle.store_model.specs.Object.{Object}
-use Rattle.store_model.specs.Slots.{changed_at, with_int, with_ref}
-use Rattle.store_model.specs.Birth.{newborn}
-use Rattle.store_model.specs.Sets.{is_in}
-use Rattle.store_model.specs.ObjectWords.{updated, renamed, info_at, layout_at, words_at, Covers}
-use Rattle.store_model.specs.Holds.{HoldsObjects, IsPointer}
+use Rattle.object_model.specs.Object.{Object}
+use Rattle.object_model.specs.Fields.{changed_at, with_int, with_ref}
+use Rattle.object_model.specs.Newborn.{newborn}
+use Rattle.object_model.specs.Sets.{is_in}
+use Rattle.object_model.specs.ObjectWords.{updated, renamed, info_at, layout_at, words_at, Covers}
+use Rattle.object_model.specs.Holds.{HoldsObjects, IsPointer}
 use Rattle.heap_space.specs.Places.{Placed, has, word_at, with_word, with_run, run_at, lies_in_one}
 use Rattle.object_header.specs.declared.flags.Flag.{Flag}
 use Rattle.object_header.specs.Words.{with_flag, without_flag}

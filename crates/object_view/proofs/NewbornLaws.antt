@@ -8,13 +8,13 @@ use Rattle.type_table.specs.declared.info.Shape.TheVariants.{Fixed, IntArray, Re
 use Rattle.type_table.specs.declared.info.TypeInfo.{TypeInfo}
 use Rattle.type_table.specs.Table.{Table, value_at}
 use Rattle.type_table.specs.Words.{words_in}
-use Rattle.store_model.specs.Layout.{Layout, layout_of}
-use Rattle.store_model.specs.Object.{Object}
-use Rattle.store_model.specs.Birth.{Request, newborn}
-use Rattle.store_model.specs.Slots.{changed_at}
-use Rattle.store_model.specs.Sets.{is_in}
-use Rattle.store_model.specs.ObjectWords.{updated, renamed, type_id_at, info_or_weak, info_at, layout_at, words_at, object_of, object_from, Covers}
-use Rattle.store_model.specs.Holds.{HoldsObjects, IsPointer}
+use Rattle.object_model.specs.Layout.{Layout, layout_of}
+use Rattle.object_model.specs.Object.{Object}
+use Rattle.object_model.specs.Newborn.{Request, newborn}
+use Rattle.object_model.specs.Fields.{changed_at}
+use Rattle.object_model.specs.Sets.{is_in}
+use Rattle.object_model.specs.ObjectWords.{updated, renamed, type_id_at, info_or_weak, info_at, layout_at, words_at, object_of, object_from, Covers}
+use Rattle.object_model.specs.Holds.{HoldsObjects, IsPointer}
 use Rattle.heap_space.specs.Places.{Placed, word_at, with_run, lies_in_one}
 use Rattle.heap_space.proofs.Blocks.{lies-each, word_at-in_run, word_at-before_run, word_at-after_run}
 use Rattle.object_view.specs.Births.{born_words}

@@ -4,11 +4,11 @@ use Rattle.std.specs.Prelude.{IsSome}
 use Rattle.type_table.specs.declared.info.TypeInfo.{TypeInfo}
 use Rattle.type_table.specs.Table.{Table, value_at}
 use Rattle.type_table.specs.Words.{words_in}
-use Rattle.store_model.specs.Layout.{Layout, layout_of}
-use Rattle.store_model.specs.Object.{Object}
-use Rattle.store_model.specs.Sets.{is_in}
-use Rattle.store_model.specs.ObjectWords.{layout_at, words_at}
-use Rattle.store_model.specs.Holds.{HoldsObjects}
+use Rattle.object_model.specs.Layout.{Layout, layout_of}
+use Rattle.object_model.specs.Object.{Object}
+use Rattle.object_model.specs.Sets.{is_in}
+use Rattle.object_model.specs.ObjectWords.{layout_at, words_at}
+use Rattle.object_model.specs.Holds.{HoldsObjects}
 use Rattle.heap_space.specs.Places.{Placed, word_at, with_word, with_run, lies_in_one}
 use Rattle.heap_space.specs.Memory.{Memory}
 use Rattle.heap_space.proofs.Blocks.{lies-with_word, lies-with_run}

@@ -3,7 +3,7 @@
 ghost use Rattle.std.specs.Prelude.{◌≡◌, ◌≤◌, Some, IfOk, IsTrue};
 ghost use Rattle.type_table.specs.Table.{value_at};
 ghost use Rattle.type_table.specs.Words.{words_in};
-ghost use Rattle.store_model.specs.Layout.{layout_of};
+ghost use Rattle.object_model.specs.Layout.{layout_of};
 ghost use Rattle.heap_space.specs.Places.{lies_in_one};
 ghost use Rattle.object_view.specs.Views.{HasView, view_of};
 

@@ -4,7 +4,7 @@ use Rattle.heap_space.specs.Memory.{Memory, without_large}
 use Rattle.heap_space.specs.Extents.{Extent, Each}
 use Rattle.size_pages.specs.Calls.{page_of, ChangesAround}
 use Rattle.size_pages.specs.PageWords.{word_in}
-use Rattle.store_model.specs.declared.settings.Settings.{Settings}
+use Rattle.object_model.specs.declared.settings.Settings.{Settings}
 use Rattle.large_objects.specs.Blocks.{larges_of, without_place}
 use Rattle.old_space.specs.HasBlocks.{HasBlocks, IsLive}
 use Rattle.old_space.specs.declared.Old.{Old}

@@ -8,7 +8,7 @@ ghost use Rattle.heap_space.specs.Places.{word_at};
 ghost use Rattle.heap_space.specs.Memory.{Memory};
 ghost use Rattle.heap_space.specs.Extents.{Extent, KeepsOutside, KeepsWords};
 ghost use Rattle.size_pages.specs.Headers.{AppendsLive, HoldsMore};
-ghost use Rattle.store_model.specs.Setup.{small_words};
+ghost use Rattle.object_model.specs.Setup.{small_words};
 
 #[cfg(test)]
 mod tests;
@@ -17,7 +17,7 @@ use heap_space::Space;
 use large_objects::Large;
 use size_pages::Pages;
 use std::alloc::{AllocError, Global};
-use store_model::Settings;
+use object_model::Settings;
 use sweep_steps::Sweeper;
 
 /// The place of the first large block: below it lie the arenas.

@@ -3,18 +3,18 @@ use Rattle.std.proofs.Common.{◌≡◌, ℕ, ◌≤◌, List, [], ◌∷◌, �
 use Rattle.std.specs.Io.KnownBytes.{Appends}
 use Rattle.std.proofs.KnownBytes.{Keeps-refl}
 use Rattle.std.proofs.lemmas.Bool.{le-ltb}
-use Rattle.store_model.specs.declared.item.Item.{Item}
-use Rattle.store_model.specs.declared.item.BadLine.{BadLine}
-use Rattle.store_model.specs.declared.item.Reason.{Reason}
-use Rattle.store_model.specs.declared.line.Line.{Line}
-use Rattle.store_model.specs.Grammar.{item_of}
-use Rattle.store_model.specs.Script.{reading, as_reading, bad_reason}
+use Rattle.text_model.specs.declared.item.Item.{Item}
+use Rattle.text_model.specs.declared.item.BadLine.{BadLine}
+use Rattle.text_model.specs.declared.item.Reason.{Reason}
+use Rattle.text_model.specs.declared.line.Line.{Line}
+use Rattle.text_model.specs.Grammar.{item_of}
+use Rattle.text_model.specs.Script.{reading, as_reading, bad_reason}
 use Rattle.store_model.specs.Progress.{Progress}
 use Rattle.store_model.specs.Refusal.{refusal}
-use Rattle.store_model.specs.Transcript.{Group, group_lines}
+use Rattle.store_model.specs.Transcript.{Group, group_lines, transcript_text}
 use Rattle.std.proofs.lemmas.Grind.{flat_map-append}
 use Rattle.std.specs.Prelude.{All}
-use Rattle.store_model.specs.Text.{line_text, lines_text, transcript_text, IsProper}
+use Rattle.text_model.specs.Text.{line_text, lines_text, IsProper}
 use Rattle.store_model.proofs.Proper.{ItemDoes-proper}
 use Rattle.store_model.specs.EndOfRun.{IsRefused}
 use Rattle.session_core.specs.Seen.{SessionSeen}

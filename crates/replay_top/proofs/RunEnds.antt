@@ -7,11 +7,11 @@ use Rattle.script_text.specs.declared.reader.ReadEnd.{ReadEnd}
 use Rattle.script_text.specs.declared.reader.ReadEnd.TheVariants.{TooMany, TooLong, ReadFault as ReaderFault}
 use Rattle.script_text.specs.Reader.{ReaderState, ahead, IsInStep, HandsOut, Begins, Longer}
 use Rattle.script_text.specs.Reading.{Reads}
-use Rattle.store_model.specs.declared.item.Reason.{Reason}
-use Rattle.store_model.specs.declared.item.Reason.TheVariants.{TooManyLines, LineTooLong}
-use Rattle.store_model.specs.Lines.{lines_of, whole_text}
-use Rattle.store_model.specs.Script.{reading}
-use Rattle.store_model.specs.Setup.{defaults}
+use Rattle.text_model.specs.declared.item.Reason.{Reason}
+use Rattle.text_model.specs.declared.item.Reason.TheVariants.{TooManyLines, LineTooLong}
+use Rattle.text_model.specs.Lines.{lines_of, whole_text}
+use Rattle.text_model.specs.Script.{reading}
+use Rattle.object_model.specs.Setup.{defaults}
 use Rattle.store_model.specs.Progress.{at_start}
 use Rattle.store_model.specs.EndOfRun.{IsRefused, TakesLine, Stands, StopsAt}
 use Rattle.session_core.specs.Seen.{SessionSeen}

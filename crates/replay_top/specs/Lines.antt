@@ -2,8 +2,7 @@
 use Rattle.std.specs.Prelude.{◌≡◌, ℕ, List, Option, Result, Ok, Err}
 use Rattle.std.specs.Io.KnownBytes.{Appends, Keeps}
 use Rattle.store_model.specs.Progress.{Progress}
-use Rattle.store_model.specs.Transcript.{Group}
-use Rattle.store_model.specs.Text.{transcript_text}
+use Rattle.store_model.specs.Transcript.{Group, transcript_text}
 use Rattle.store_model.specs.EndOfRun.{IsRefused, TakesLine}
 use Rattle.replay_top.specs.declared.line.Stop.{Stop}
 use Rattle.replay_top.specs.declared.line.Stop.TheVariants.{Malformed, OutOfMemory, ReadFault, WriteFault}

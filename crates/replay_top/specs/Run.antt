@@ -3,8 +3,8 @@ use Rattle.std.specs.Prelude.{‚Ñï, List, Option, Some, None, Result, Ok, Err, ‚ä
 use Rattle.std.specs.Io.KnownBytes.{IsAtEnd}
 use Rattle.script_text.specs.declared.reader.ReadEnd.{ReadEnd}
 use Rattle.script_text.specs.declared.reader.ReadEnd.TheVariants.{TooMany, TooLong, ReadFault as ReaderFault}
-use Rattle.store_model.specs.declared.item.Reason.TheVariants.{TooManyLines, LineTooLong}
-use Rattle.store_model.specs.Lines.{lines_of}
+use Rattle.text_model.specs.declared.item.Reason.TheVariants.{TooManyLines, LineTooLong}
+use Rattle.text_model.specs.Lines.{lines_of}
 use Rattle.store_model.specs.EndOfRun.{Stands, StopsAt, StopsReading, StopsWriting, StopsSomewhere}
 use Rattle.replay_top.specs.declared.line.Stop.{Stop}
 use Rattle.replay_top.specs.declared.line.Stop.TheVariants.{Malformed, OutOfMemory, ReadFault, WriteFault}

@@ -2,7 +2,7 @@
 ghost use Rattle.std.specs.Prelude.{◌≡◌, ◌≤◌, length, IsErrOf};
 ghost use Rattle.heap_io.specs.Causes.{Rose, HasCause};
 ghost use Rattle.store_model.specs.Progress.{Progress};
-ghost use Rattle.store_model.specs.Script.{bad_reason};
+ghost use Rattle.text_model.specs.Script.{bad_reason};
 ghost use Rattle.session_core.specs.Standing.{IsPlaced, StandsAt};
 ghost use Rattle.replay_top.specs.Written.{Writes};
 ghost use Rattle.replay_top.specs.Lines.{EndsLine, stop_of};

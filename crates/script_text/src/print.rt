@@ -2,7 +2,7 @@
 //! its front, and behind it may stand a part of the line.
 
 ghost use Rattle.std.specs.Prelude.{◌≡◌, ◌<◌, ◌^◌, ◌++◌, ◌∷◌, [], All, OnOk, OnErr};
-ghost use Rattle.store_model.specs.ItemText.{joined, decimals};
+ghost use Rattle.text_model.specs.ItemText.{joined, decimals};
 ghost use Rattle.script_text.specs.Printing.{spaced, Extends};
 
 use itoa::Buffer;

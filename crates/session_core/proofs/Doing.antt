@@ -1,16 +1,17 @@
 -- What the calls of a heap do is what the commands are.
 use Rattle.std.proofs.Common.{◌≡◌, ℕ, true, false, Bool, List, [], ◌∷◌, ◌++◌, Option, Some, None, Result, Ok, Err, refl, sym, ap, ap₂, append-nil}
 use Rattle.std.specs.Prelude.{OnOk}
-use Rattle.store_model.specs.declared.command.Command.{Command}
-use Rattle.store_model.specs.declared.command.Command.TheVariants.{NewFixed, NewArray, Put, Get, Link, Load, MoveRoot, DropRoot, Same, Used}
-use Rattle.store_model.specs.declared.line.Line.{Line}
-use Rattle.store_model.specs.declared.line.Line.TheVariants.{Got, Loaded, SameAs, UsedIs}
-use Rattle.store_model.specs.Setup.{Setup}
-use Rattle.store_model.specs.Store.{Store, kept_words, husk_words}
+use Rattle.text_model.specs.declared.command.Command.{Command}
+use Rattle.text_model.specs.declared.command.Command.TheVariants.{NewFixed, NewArray, Put, Get, Link, Load, MoveRoot, DropRoot, Same, Used}
+use Rattle.text_model.specs.declared.line.Line.{Line}
+use Rattle.text_model.specs.declared.line.Line.TheVariants.{Got, Loaded, SameAs, UsedIs}
+use Rattle.object_model.specs.Setup.{Setup}
+use Rattle.store_model.specs.Store.{Store, husk_words}
+use Rattle.object_model.specs.Object.{kept_words}
 use Rattle.store_model.specs.Slots.{held, put_in_slot, is_same}
 use Rattle.store_model.specs.Steps.{Does, int_at, ref_at, put_int, put_ref, array_request}
-use Rattle.store_model.specs.declared.item.Reason.TheVariants.{NotBuilt, Range}
-use Rattle.store_model.specs.Range.{is_above}
+use Rattle.text_model.specs.declared.item.Reason.TheVariants.{NotBuilt, Range}
+use Rattle.text_model.specs.Range.{is_above}
 use Rattle.store_model.specs.Refusal.{is_unbuilt}
 use Rattle.heap_core.specs.declared.fault.HeapFault.{HeapFault}
 use Rattle.heap_core.specs.Parts.{HeapParts, HeapSeen}

@@ -3,17 +3,18 @@ use Rattle.std.proofs.Common.{◌≡◌, ℕ, List, [], ◌∷◌, ◌++◌, Opt
 use Rattle.std.specs.Prelude.{is_none, slice_get}
 use Rattle.type_table.specs.declared.info.TypeInfo.{TypeInfo}
 use Rattle.type_table.specs.Table.{Table, with_value}
-use Rattle.store_model.specs.declared.command.Command.{Command}
-use Rattle.store_model.specs.declared.item.Item.{Item}
-use Rattle.store_model.specs.declared.item.Item.TheVariants.{Blank, Setting, TypeDef, Command as CommandItem}
-use Rattle.store_model.specs.declared.item.Reason.TheVariants.{NotBuilt, Late, SetTwice, SetRange}
-use Rattle.store_model.specs.declared.line.Line.{Line}
-use Rattle.store_model.specs.Setup.{Setup}
+use Rattle.text_model.specs.declared.command.Command.{Command}
+use Rattle.text_model.specs.declared.item.Item.{Item}
+use Rattle.text_model.specs.declared.item.Item.TheVariants.{Blank, Setting, TypeDef, Command as CommandItem}
+use Rattle.text_model.specs.declared.item.Reason.TheVariants.{NotBuilt, Late, SetTwice, SetRange}
+use Rattle.text_model.specs.declared.line.Line.{Line}
+use Rattle.object_model.specs.Setup.{Setup}
 use Rattle.store_model.specs.Store.{empty_store}
-use Rattle.store_model.specs.Sets.{is_in}
+use Rattle.object_model.specs.Sets.{is_in}
 use Rattle.store_model.specs.Steps.{Does}
 use Rattle.store_model.specs.Progress.{Progress, with_setting, after_setting, after_type, after_command}
-use Rattle.store_model.specs.Checks.{first_reason, is_outside, ranges}
+use Rattle.store_model.specs.Checks.{first_reason}
+use Rattle.object_model.specs.SettingRanges.{is_outside, ranges}
 use Rattle.store_model.specs.Look.{Look}
 use Rattle.store_model.specs.Refusal.{refusal_seen, command_checks}
 use Rattle.store_model.specs.Transcript.{ItemDoes}

@@ -3,16 +3,17 @@ use Rattle.std.proofs.Common.{◌≡◌, ℕ, zero, suc, Bool, List, [], Option,
 use Rattle.std.specs.Prelude.{slice_index_or, is_none, false, option_map, option_and_then, IsSome}
 use Rattle.type_table.specs.declared.info.TypeInfo.{TypeInfo}
 use Rattle.type_table.specs.Table.{Table}
-use Rattle.store_model.specs.declared.item.Item.{Item}
-use Rattle.store_model.specs.declared.settings.Settings.{Settings}
-use Rattle.store_model.specs.Setup.{Setup}
-use Rattle.store_model.specs.Store.{Store, empty_store, object_at}
-use Rattle.store_model.specs.Slots.{held}
-use Rattle.store_model.specs.Shapes.{kind_in, kind_of}
+use Rattle.text_model.specs.declared.item.Item.{Item}
+use Rattle.object_model.specs.declared.settings.Settings.{Settings}
+use Rattle.object_model.specs.Setup.{Setup}
+use Rattle.store_model.specs.Store.{Store, empty_store}
+use Rattle.object_model.specs.Object.{object_at}
+use Rattle.store_model.specs.Slots.{held, kind_in}
+use Rattle.object_model.specs.Shapes.{kind_of}
 use Rattle.store_model.specs.Look.{Look, look, is_held_in}
 use Rattle.store_model.specs.Progress.{Progress}
 use Rattle.store_model.specs.Refusal.{refusal, refusal_seen}
-use Rattle.store_model.specs.declared.structure.StructState.TheVariants.{Absent}
+use Rattle.object_model.specs.declared.structure.StructState.TheVariants.{Absent}
 use Rattle.heap_core.specs.Parts.{HeapParts, HeapSeen, started_parts, AreFresh}
 use Rattle.heap_core.specs.Told.{word_in, kind_at, told}
 use Rattle.heap_core.specs.Commands.{nothing_told}

@@ -2,8 +2,8 @@
 use Rattle.std.proofs.Common.{◌≡◌, ℕ, zero, suc, false, List, [], ◌∷◌, refl, sym, subst}
 use Rattle.std.specs.Prelude.{slice_get, slice_set, nat_lt, ◌||◌, Bool, true}
 use Rattle.std.proofs.lemmas.Bool.{ltb-false}
-use Rattle.store_model.specs.declared.settings.Settings.{Settings}
-use Rattle.store_model.specs.Checks.{AreWithin, AreInRange, values_of, ranges, is_outside}
+use Rattle.object_model.specs.declared.settings.Settings.{Settings}
+use Rattle.object_model.specs.SettingRanges.{AreWithin, AreInRange, values_of, ranges, is_outside}
 use Rattle.store_model.specs.Progress.{with_setting}
 
 or_false : (a b : Bool) → (a || b) ≡ false → (a ≡ false) × (b ≡ false)

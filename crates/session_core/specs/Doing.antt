@@ -1,7 +1,7 @@
 -- What a command that is not refused does to a heap.
 use Rattle.std.specs.Prelude.{◌≡◌, List, ◌++◌}
-use Rattle.store_model.specs.declared.command.Command.{Command}
-use Rattle.store_model.specs.declared.line.Line.{Line}
+use Rattle.text_model.specs.declared.command.Command.{Command}
+use Rattle.text_model.specs.declared.line.Line.{Line}
 use Rattle.store_model.specs.Store.{Store}
 use Rattle.store_model.specs.Steps.{Does}
 use Rattle.heap_core.specs.Parts.{HeapSeen}

@@ -2,11 +2,11 @@
 use Rattle.std.specs.Prelude.{◌≡◌, ℕ, List, [], ◌∷◌, ◌++◌, Option, Some, None, is_none, option_map, Result, Ok, Err, ⊤}
 use Rattle.type_table.specs.declared.info.TypeInfo.{TypeInfo}
 use Rattle.type_table.specs.Table.{Table, with_value}
-use Rattle.store_model.specs.declared.item.Item.{Item}
-use Rattle.store_model.specs.declared.item.Reason.{Reason}
-use Rattle.store_model.specs.declared.line.Line.{Line}
-use Rattle.store_model.specs.declared.settings.Settings.{Settings}
-use Rattle.store_model.specs.Setup.{Setup}
+use Rattle.text_model.specs.declared.item.Item.{Item}
+use Rattle.text_model.specs.declared.item.Reason.{Reason}
+use Rattle.text_model.specs.declared.line.Line.{Line}
+use Rattle.object_model.specs.declared.settings.Settings.{Settings}
+use Rattle.object_model.specs.Setup.{Setup}
 use Rattle.store_model.specs.Store.{Store, empty_store}
 use Rattle.store_model.specs.Progress.{Progress, with_setting}
 use Rattle.store_model.specs.Look.{Look}

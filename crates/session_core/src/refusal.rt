@@ -2,10 +2,10 @@
 ghost use Rattle.std.specs.Prelude.{◌≡◌, ◌≤◌, [], ◌∷◌, ◌++◌, Option, is_none, nat_le, length, false};
 ghost use Rattle.type_table.specs.Table.{value_at};
 ghost use Rattle.type_table.specs.declared.info.TypeInfo.{TypeInfo};
-ghost use Rattle.store_model.specs.Range.{is_above};
-ghost use Rattle.store_model.specs.Setup.{type_at};
-ghost use Rattle.store_model.specs.Sets.{is_in};
-ghost use Rattle.store_model.specs.Shapes.{is_fixed_shape, is_array_shape};
+ghost use Rattle.text_model.specs.Range.{is_above};
+ghost use Rattle.object_model.specs.Setup.{type_at};
+ghost use Rattle.object_model.specs.Sets.{is_in};
+ghost use Rattle.object_model.specs.Shapes.{is_fixed_shape, is_array_shape};
 ghost use Rattle.store_model.specs.Checks.{first_reason, setting_checks, type_checks, slots_checks, born_checks, room_checks, type_words, int_checks, ref_checks};
 ghost use Rattle.store_model.specs.Refusal.{command_checks, checks_in_range};
 ghost use Rattle.session_core.specs.Standing.{IsPlaced, setup_of, seen_if, types_in, refusal_of};

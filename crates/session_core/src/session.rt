@@ -1,8 +1,8 @@
 //! The items of a script, one after another: which are refused, and what the others do.
 ghost use Rattle.std.specs.Prelude.{◌≡◌, [], Some, IfOk, OnOk, slice_get, false};
-ghost use Rattle.store_model.specs.Checks.{is_outside, ranges};
+ghost use Rattle.object_model.specs.SettingRanges.{is_outside, ranges};
 ghost use Rattle.store_model.specs.Progress.{Progress};
-ghost use Rattle.store_model.specs.Setup.{defaults};
+ghost use Rattle.object_model.specs.Setup.{defaults};
 ghost use Rattle.session_core.specs.Seen.{SessionSeen};
 ghost use Rattle.session_core.specs.Standing.{IsPlaced, StandsAt, Answers, Sets, Adds, Begins};
 
@@ -67,7 +67,7 @@ pub struct Session {
 }
 
 impl Model for Session {
-    ghost use Rattle.store_model.specs.Checks.{AreInRange};
+    ghost use Rattle.object_model.specs.SettingRanges.{AreInRange};
     ghost use Rattle.session_core.specs.Seen.{SessionSeen};
 
     ghost Value = { SessionSeen };

@@ -1,15 +1,14 @@
 -- What stands when a run ends, by how it ends. The heap at its end is seen by the stores that it stands for.
 use Rattle.std.specs.Prelude.{◌≡◌, ℕ, ◌+◌, ◌<◌, List, [], ◌∷◌, ◌++◌, length, map, Option, Some, None, Ok, Err, ◌⊎◌}
 use Rattle.std.specs.Io.KnownBytes.{Appends, Consumes}
-use Rattle.store_model.specs.declared.item.Item.{Item}
-use Rattle.store_model.specs.declared.item.Reason.{Reason}
+use Rattle.text_model.specs.declared.item.Item.{Item}
+use Rattle.text_model.specs.declared.item.Reason.{Reason}
 use Rattle.store_model.specs.Store.{Store}
 use Rattle.store_model.specs.Progress.{Progress, at_start}
 use Rattle.store_model.specs.Refusal.{refusal}
-use Rattle.store_model.specs.Transcript.{Group, ItemDoes, Runs}
-use Rattle.store_model.specs.Text.{transcript_text}
-use Rattle.store_model.specs.Lines.{lines_of, whole_lines_of}
-use Rattle.store_model.specs.Script.{reading, readings}
+use Rattle.store_model.specs.Transcript.{Group, ItemDoes, Runs, transcript_text}
+use Rattle.text_model.specs.Lines.{lines_of, whole_lines_of}
+use Rattle.text_model.specs.Script.{reading, readings}
 
 -- The lines are done: each has its item, none is refused, and the text is that of a transcript of theirs.
 pub record IsDone (lines : List (List ℕ)) (text : List ℕ) (after : Progress) : Type 0 where

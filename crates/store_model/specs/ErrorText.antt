@@ -1,7 +1,7 @@
 -- What is told of a run that stops before its end.
 use Rattle.std.specs.Prelude.{ℕ, List, ◌++◌, codes, decimal}
-use Rattle.store_model.specs.declared.item.Reason.{Reason}
-use Rattle.store_model.specs.declared.item.Reason.TheVariants as reason
+use Rattle.text_model.specs.declared.item.Reason.{Reason}
+use Rattle.text_model.specs.declared.item.Reason.TheVariants as reason
 
 -- the text of a reason is its name
 abbrev pub reason_text : Reason → List ℕ

@@ -1,12 +1,12 @@
 -- What refusals look at in a store.
 use Rattle.std.specs.Prelude.{ℕ, Bool, false, Option, Some, None, List}
 use Rattle.type_table.specs.Table.{value_at}
-use Rattle.store_model.specs.declared.kind.Kind.{Kind}
-use Rattle.store_model.specs.declared.structure.StructState.{StructState}
-use Rattle.store_model.specs.Sets.{is_in}
-use Rattle.store_model.specs.Store.{Store, kept_words, unsettled_words}
-use Rattle.store_model.specs.Slots.{held}
-use Rattle.store_model.specs.Shapes.{kind_in}
+use Rattle.object_model.specs.declared.kind.Kind.{Kind}
+use Rattle.object_model.specs.declared.structure.StructState.{StructState}
+use Rattle.object_model.specs.Sets.{is_in}
+use Rattle.store_model.specs.Store.{Store, unsettled_words}
+use Rattle.object_model.specs.Object.{kept_words}
+use Rattle.store_model.specs.Slots.{held, kind_in}
 use Rattle.store_model.specs.StructChecks.{has_p_link}
 use Rattle.store_model.specs.Structs.{state_of}
 

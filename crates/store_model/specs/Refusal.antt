@@ -1,17 +1,17 @@
 -- The first reason for which an item is refused where a script stands, if there is one.
 use Rattle.std.specs.Prelude.{ℕ, ◌+◌, Bool, true, false, List, [], ◌∷◌, ◌++◌, Option, None, length}
 use Rattle.type_table.specs.Table.{value_at}
-use Rattle.store_model.specs.declared.command.Command.{Command}
-use Rattle.store_model.specs.declared.command.Command.TheVariants.{NewFixed, NewArray, NewWeak, Put, Get, Link, Load, CopyRefs, MoveRoot, DropRoot, Same, Ident, Hash, Place, Pin, Unpin, Deref, Register, NextFinal, MakeLink, Inc, Dec, Count, FromObj, ToObj, NextDead, Minor, Step, Collect, Used}
-use Rattle.store_model.specs.declared.item.Item.{Item}
-use Rattle.store_model.specs.declared.item.Item.TheVariants.{Blank, Setting, TypeDef, Command as CommandItem}
-use Rattle.store_model.specs.declared.item.Reason.{Reason}
-use Rattle.store_model.specs.declared.item.Reason.TheVariants.{NotBuilt, Range}
-use Rattle.store_model.specs.Sets.{is_in}
-use Rattle.store_model.specs.Setup.{Setup, type_at}
+use Rattle.text_model.specs.declared.command.Command.{Command}
+use Rattle.text_model.specs.declared.command.Command.TheVariants.{NewFixed, NewArray, NewWeak, Put, Get, Link, Load, CopyRefs, MoveRoot, DropRoot, Same, Ident, Hash, Place, Pin, Unpin, Deref, Register, NextFinal, MakeLink, Inc, Dec, Count, FromObj, ToObj, NextDead, Minor, Step, Collect, Used}
+use Rattle.text_model.specs.declared.item.Item.{Item}
+use Rattle.text_model.specs.declared.item.Item.TheVariants.{Blank, Setting, TypeDef, Command as CommandItem}
+use Rattle.text_model.specs.declared.item.Reason.{Reason}
+use Rattle.text_model.specs.declared.item.Reason.TheVariants.{NotBuilt, Range}
+use Rattle.object_model.specs.Sets.{is_in}
+use Rattle.object_model.specs.Setup.{Setup, type_at}
 use Rattle.store_model.specs.Look.{Look, look}
-use Rattle.store_model.specs.Shapes.{is_fixed_shape, is_array_shape, is_weak_shape}
-use Rattle.store_model.specs.Range.{is_above}
+use Rattle.object_model.specs.Shapes.{is_fixed_shape, is_array_shape, is_weak_shape}
+use Rattle.text_model.specs.Range.{is_above}
 use Rattle.store_model.specs.Checks.{Checks, first_reason, setting_checks, type_checks, slots_checks, found_checks, born_checks, type_words, room_checks, int_checks, ref_checks, copy_checks}
 use Rattle.store_model.specs.StructChecks.{weak_checks, unpin_checks, queue_checks, register_checks, link_checks, struct_checks, inc_checks, dec_checks}
 use Rattle.store_model.specs.Progress.{Progress}

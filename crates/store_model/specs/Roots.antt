@@ -1,7 +1,7 @@
 -- The roots of a store, and what its objects refer to.
 use Rattle.std.specs.Prelude.{ℕ, Bool, is_some, List, [], ◌++◌, Option, Some, None, map, filter_map, flat_map}
-use Rattle.store_model.specs.Object.{Object, referents}
-use Rattle.store_model.specs.Store.{Store, object_at}
+use Rattle.object_model.specs.Object.{Object, referents, object_at}
+use Rattle.store_model.specs.Store.{Store}
 use Rattle.store_model.specs.Structs.{forced_objects}
 
 -- whether the object of a birth is kept

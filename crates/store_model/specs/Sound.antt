@@ -2,12 +2,12 @@
 use Rattle.std.specs.Prelude.{◌≡◌, ℕ, ◌+◌, ◌-◌, ◌/◌, ◌<◌, ◌≤◌, true, nat_eq, IsTrue, IsFalse, List, [], ◌++◌, Option, Some, None, map, flat_map, filter_map, length}
 use Rattle.std.specs.List.{IsDistinct}
 use Rattle.type_table.specs.Table.{Table, value_at}
-use Rattle.store_model.specs.declared.line.Phase.{Phase}
-use Rattle.store_model.specs.declared.line.Phase.TheVariants.{Scanning, Marking, Sweeping, Finalizing}
-use Rattle.store_model.specs.declared.settings.Settings.{Settings}
-use Rattle.store_model.specs.Sets.{is_in}
-use Rattle.store_model.specs.Object.{Object}
-use Rattle.store_model.specs.Store.{Store, Struct, Linked, Unlinked, Pending, object_at}
+use Rattle.text_model.specs.declared.line.Phase.{Phase}
+use Rattle.text_model.specs.declared.line.Phase.TheVariants.{Scanning, Marking, Sweeping, Finalizing}
+use Rattle.object_model.specs.declared.settings.Settings.{Settings}
+use Rattle.object_model.specs.Sets.{is_in}
+use Rattle.object_model.specs.Object.{Object, object_at}
+use Rattle.store_model.specs.Store.{Store, Struct, Linked, Unlinked, Pending}
 use Rattle.store_model.specs.Structs.{object_of}
 use Rattle.store_model.specs.Roots.{is_kept, roots_of, registered_births, referents_in, target_in}
 

@@ -1,13 +1,16 @@
 -- What each command may print and leave.
 use Rattle.std.specs.Prelude.{◌≡◌, ℕ, List, [], ◌∷◌, Option, None, slice_index}
-use Rattle.store_model.specs.declared.command.Command.{Command}
-use Rattle.store_model.specs.declared.command.Command.TheVariants.{NewFixed, NewArray, Put, Get, Link, Load, MoveRoot, DropRoot, Same, Used}
-use Rattle.store_model.specs.declared.line.Line.{Line}
-use Rattle.store_model.specs.declared.line.Line.TheVariants.{Got, Loaded, SameAs, UsedIs}
-use Rattle.store_model.specs.Setup.{Setup}
-use Rattle.store_model.specs.Store.{Store, kept_words, husk_words}
-use Rattle.store_model.specs.Slots.{held, object_in, put_in_slot, is_same, changed_at, with_int, with_ref, ints_of, refs_of, ref_in}
-use Rattle.store_model.specs.Birth.{Request, Birth}
+use Rattle.text_model.specs.declared.command.Command.{Command}
+use Rattle.text_model.specs.declared.command.Command.TheVariants.{NewFixed, NewArray, Put, Get, Link, Load, MoveRoot, DropRoot, Same, Used}
+use Rattle.text_model.specs.declared.line.Line.{Line}
+use Rattle.text_model.specs.declared.line.Line.TheVariants.{Got, Loaded, SameAs, UsedIs}
+use Rattle.object_model.specs.Setup.{Setup}
+use Rattle.store_model.specs.Store.{Store, husk_words}
+use Rattle.object_model.specs.Object.{kept_words}
+use Rattle.store_model.specs.Slots.{held, object_in, put_in_slot, is_same}
+use Rattle.object_model.specs.Fields.{changed_at, with_int, with_ref, ints_of, refs_of, ref_in}
+use Rattle.object_model.specs.Newborn.{Request}
+use Rattle.store_model.specs.Birth.{Birth}
 
 -- an object of a fixed type for a slot
 abbrev pub fixed_request : ℕ → ℕ → Request

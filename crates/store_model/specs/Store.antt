@@ -1,11 +1,11 @@
 -- The store of unmoving objects: objects by birth, and no places in memory but the homes that were told.
-use Rattle.std.specs.Prelude.{ℕ, ◌+◌, Bool, false, ◌==◌, not, List, [], Option, None, sum_by, find, filter, replicate}
+use Rattle.std.specs.Prelude.{ℕ, ◌+◌, Bool, false, not, List, [], Option, None, sum_by, filter, replicate}
 use Rattle.type_table.specs.Table.{Table}
-use Rattle.store_model.specs.declared.line.Phase.{Phase}
-use Rattle.store_model.specs.declared.line.Phase.TheVariants.{Scanning}
-use Rattle.store_model.specs.declared.settings.Settings.{Settings}
-use Rattle.store_model.specs.Sets.{is_in}
-use Rattle.store_model.specs.Object.{Object, words_of}
+use Rattle.text_model.specs.declared.line.Phase.{Phase}
+use Rattle.text_model.specs.declared.line.Phase.TheVariants.{Scanning}
+use Rattle.object_model.specs.declared.settings.Settings.{Settings}
+use Rattle.object_model.specs.Sets.{is_in}
+use Rattle.object_model.specs.Object.{Object, kept_words}
 
 -- a C structure that is there: linked with the object of a birth by a P link or an O link, unlinked, or pending
 pub data Struct : Type 0 where
@@ -63,17 +63,9 @@ empty_store settings = record {
   left = 0;
 }
 
--- the object of a birth
-abbrev pub object_at : List Object → ℕ → Option Object
-object_at kept birth = find (λ object. birth == object.birth) kept
-
 -- whether a birth is settled
 abbrev pub is_settled : List ℕ → ℕ → Bool
 is_settled settled birth = is_in birth settled
-
--- the words of all kept objects
-abbrev pub kept_words : List Object → ℕ
-kept_words kept = sum_by words_of kept
 
 -- the words of all husks
 abbrev pub husk_words : List (ℕ × ℕ) → ℕ

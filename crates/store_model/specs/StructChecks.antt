@@ -1,13 +1,13 @@
 -- Checks on C structures, pins and finalizers that refuse a command.
-use Rattle.std.specs.Prelude.{ℕ, Bool, true, false, ◌==◌, ◌&&◌, not, nat_le, is_none, List, [], ◌∷◌, Option, Some, None}
+use Rattle.std.specs.Prelude.{ℕ, Bool, true, false, ◌==◌, ◌&&◌, not, nat_le, is_none, [], ◌∷◌, Option, Some, None}
 use Rattle.std.specs.List.{list_any}
 use Rattle.type_table.specs.Table.{Table}
-use Rattle.store_model.specs.declared.item.Reason.TheVariants.{NotPinned, NoQueue, Registered, StructUsed, HasPLink, NoStruct, StructPending, CountFull, CountZero, WrongShape, NilRoot}
-use Rattle.store_model.specs.declared.kind.Kind.{Kind}
-use Rattle.store_model.specs.declared.structure.StructState.{StructState}
-use Rattle.store_model.specs.declared.structure.StructState.TheVariants as state
+use Rattle.text_model.specs.declared.item.Reason.TheVariants.{NotPinned, NoQueue, Registered, StructUsed, HasPLink, NoStruct, StructPending, CountFull, CountZero, WrongShape, NilRoot}
+use Rattle.object_model.specs.declared.kind.Kind.{Kind}
+use Rattle.object_model.specs.declared.structure.StructState.{StructState}
+use Rattle.object_model.specs.declared.structure.StructState.TheVariants as state
 use Rattle.store_model.specs.Store.{Struct, Linked, Unlinked, Pending}
-use Rattle.store_model.specs.Shapes.{is_weak}
+use Rattle.object_model.specs.Shapes.{is_weak}
 use Rattle.store_model.specs.Checks.{Checks}
 
 -- of what a slot holds, which must be a weak object

@@ -1,11 +1,12 @@
 -- Which transcripts the store allows.
-use Rattle.std.specs.Prelude.{◌≡◌, List, [], ◌∷◌, ◌++◌, None, flat_map}
-use Rattle.store_model.specs.declared.command.Command.{Command}
-use Rattle.store_model.specs.declared.item.Item.{Item}
-use Rattle.store_model.specs.declared.item.Item.TheVariants.{Blank, Setting, TypeDef, Command as CommandItem}
-use Rattle.store_model.specs.declared.line.Line.{Line}
+use Rattle.std.specs.Prelude.{◌≡◌, ℕ, List, [], ◌∷◌, ◌++◌, None, flat_map}
+use Rattle.text_model.specs.declared.command.Command.{Command}
+use Rattle.text_model.specs.declared.item.Item.{Item}
+use Rattle.text_model.specs.declared.item.Item.TheVariants.{Blank, Setting, TypeDef, Command as CommandItem}
+use Rattle.text_model.specs.declared.line.Line.{Line}
 use Rattle.store_model.specs.Store.{Store}
 use Rattle.store_model.specs.Progress.{Progress, after_setting, after_type, after_command}
+use Rattle.text_model.specs.Text.{lines_text}
 use Rattle.store_model.specs.Refusal.{refusal}
 use Rattle.store_model.specs.Steps.{Does}
 
@@ -39,3 +40,7 @@ Runs old (item ∷ items) groups new =
 -- the lines of groups, one after another
 abbrev pub group_lines : List Group → List Line
 group_lines groups = flat_map (λ group. group.lines) groups
+
+-- the text of a transcript
+abbrev pub transcript_text : List Group → List ℕ
+transcript_text groups = flat_map (λ group. lines_text group.lines) groups

@@ -1,5 +1,5 @@
 use Rattle.std.proofs.Common.{ap}
-use Rattle.store_model.specs.declared.command.Command.TheVariants.{Put}
+use Rattle.text_model.specs.declared.command.Command.TheVariants.{Put}
 use Rattle.store_model.specs.Steps.{put_int}
 use Rattle.heap_core.specs.Seen.{seen}
 use Rattle.heap_core.specs.declared.heap.Heap.TheInside.{Inside}

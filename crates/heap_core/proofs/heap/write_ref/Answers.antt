@@ -1,5 +1,5 @@
 use Rattle.std.proofs.Common.{ℕ, ap, ◌∙◌}
-use Rattle.store_model.specs.declared.command.Command.TheVariants.{Link}
+use Rattle.text_model.specs.declared.command.Command.TheVariants.{Link}
 use Rattle.store_model.specs.Slots.{held}
 use Rattle.store_model.specs.Steps.{put_ref}
 use Rattle.heap_core.specs.Seen.{seen}

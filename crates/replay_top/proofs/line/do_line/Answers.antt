@@ -1,11 +1,10 @@
 use Rattle.std.proofs.Common.{ℕ, List, ◌++◌, refl, ap, sym, subst, ◌∙◌}
 use Rattle.std.specs.Io.KnownBytes.{Appends}
-use Rattle.store_model.specs.Text.{lines_text}
+use Rattle.text_model.specs.Text.{lines_text, IsProper}
 use Rattle.replay_top.specs.Written.{WritesPart}
 use Rattle.std.proofs.KnownBytes.{Keeps-refl}
 use Rattle.std.specs.Prelude.{All}
-use Rattle.store_model.specs.declared.line.Line.{Line}
-use Rattle.store_model.specs.Text.{IsProper}
+use Rattle.text_model.specs.declared.line.Line.{Line}
 use Rattle.replay_top.proofs.LineEnds.{refused_by_form, line_refused, line_done, line_cut, lines_proper}
 use Rattle.replay_top.proofs.line.do_line.Goals as goal
 

@@ -1,5 +1,5 @@
 use Rattle.std.proofs.Common.{None, ap}
-use Rattle.store_model.specs.declared.command.Command.TheVariants.{DropRoot}
+use Rattle.text_model.specs.declared.command.Command.TheVariants.{DropRoot}
 use Rattle.store_model.specs.Slots.{put_in_slot}
 use Rattle.heap_core.specs.Seen.{seen}
 use Rattle.heap_core.specs.declared.heap.Heap.TheInside.{Inside}

@@ -1,5 +1,5 @@
 use Rattle.std.proofs.Common.{Ok, ap, ◌∙◌}
-use Rattle.store_model.specs.declared.command.Command.TheVariants.{Get}
+use Rattle.text_model.specs.declared.command.Command.TheVariants.{Get}
 use Rattle.heap_core.specs.declared.heap.State.TheVariants.{Started}
 use Rattle.heap_core.proofs.Ready.{get_ready}
 use Rattle.heap_core.proofs.Commands.{int_is}

@@ -1,5 +1,5 @@
 use Rattle.std.proofs.Common.{ℕ, Ok, ap, sym, subst, ◌∙◌, ◌≢◌}
-use Rattle.store_model.specs.declared.command.Command.TheVariants.{Load}
+use Rattle.text_model.specs.declared.command.Command.TheVariants.{Load}
 use Rattle.store_model.specs.Slots.{put_in_slot}
 use Rattle.store_model.specs.Steps.{ref_at}
 use Rattle.heap_core.specs.Seen.{seen}

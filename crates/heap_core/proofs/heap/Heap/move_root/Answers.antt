@@ -1,5 +1,5 @@
 use Rattle.std.proofs.Common.{ℕ, ap, ◌∙◌}
-use Rattle.store_model.specs.declared.command.Command.TheVariants.{MoveRoot}
+use Rattle.text_model.specs.declared.command.Command.TheVariants.{MoveRoot}
 use Rattle.store_model.specs.Slots.{held, put_in_slot}
 use Rattle.heap_core.specs.Seen.{seen}
 use Rattle.heap_core.specs.declared.heap.Heap.TheInside.{Inside}

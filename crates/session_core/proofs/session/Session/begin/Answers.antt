@@ -1,5 +1,5 @@
 use Rattle.std.proofs.Common.{sym, ap, subst, ◌∙◌}
-use Rattle.store_model.specs.declared.settings.Settings.{Settings}
+use Rattle.object_model.specs.declared.settings.Settings.{Settings}
 use Rattle.store_model.specs.Store.{empty_store}
 use Rattle.heap_core.specs.Commands.{IsFresh}
 use Rattle.heap_core.specs.StandsFor.{StandsFor}

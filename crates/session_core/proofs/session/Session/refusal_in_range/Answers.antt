@@ -1,5 +1,5 @@
 use Rattle.std.proofs.Common.{ap, sym, ◌∙◌}
-use Rattle.store_model.specs.Range.{is_above}
+use Rattle.text_model.specs.Range.{is_above}
 use Rattle.heap_core.proofs.Ready.{len_in_range}
 use Rattle.session_core.proofs.session.Session.refusal_in_range.Goals as goal
 

@@ -1,5 +1,5 @@
 use Rattle.std.proofs.Common.{sym, subst}
-use Rattle.store_model.specs.Checks.{AreInRange}
+use Rattle.object_model.specs.SettingRanges.{AreInRange}
 use Rattle.session_core.proofs.Ranges.{setting_in_range}
 use Rattle.session_core.proofs.session.Session.set.Goals as goal
 

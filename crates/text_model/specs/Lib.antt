@@ -1,0 +1,9 @@
+pub mod Lines
+pub mod Numbers
+pub mod Range
+pub mod Grammar
+pub mod CommandGrammar
+pub mod ItemText
+pub mod ItemLine
+pub mod Script
+pub mod Text
