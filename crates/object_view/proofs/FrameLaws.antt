@@ -98,7 +98,7 @@ keeps-header types w p x e small =
       layout_stays = layout_at-same types (updated w p x) w p type_stays (λ a b. updated-other w p x (p + 2) (λ z. absurd (omega (arith, z))));
     }
 
-header-same : (types : Table TypeInfo) (name w : ℕ → ℕ) (p x : ℕ) → x % 65536 ≡ w p % 65536 → x < 67108864
+pub header-same : (types : Table TypeInfo) (name w : ℕ → ℕ) (p x : ℕ) → x % 65536 ≡ w p % 65536 → x < 67108864
     → object_from types name (updated w p x) p ≡ object_from types name w p
 header-same types name w p x e small =
     let k : Layout = layout_at types w p in let laid = laid_out types w p in

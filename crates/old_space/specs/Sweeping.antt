@@ -41,6 +41,8 @@ pub record SweepsUnit (old : Old) (m : Memory) (new : Old) (after : Memory) (bir
 pub record SweepsLowest (old : Old) (m : Memory) (new : Old) (after : Memory) (births : List ℕ) : Type 0 where
   pub lowest : (live : List Extent) (unit : ℕ) (rest : List ℕ) → HasHeaders old m live (unit ∷ rest) → SweepsUnit old m new after births live unit rest
   pub outside : KeepsOutside 4294967296 9223372036854775808 m after
+  pub arena_words : after.arena_words ≡ m.arena_words
+  pub page : new.pages.page ≡ old.pages.page
   pub small : greatest_small new ≡ greatest_small old
 
 -- how many units wait

@@ -44,6 +44,7 @@ impl Old {
         requires { HasPageSettings settings.now }
         ensures empty { IfOk result (λ old. (m : Memory) → IsEmptyFor settings.now m → HasBlocks old m [] []) }
         ensures small { IfOk result (λ old. greatest_small old ≡ small_words settings.now) }
+        ensures page { IfOk result (λ old. old.pages.page ≡ settings.now.page) }
     {
         let small = settings.small.min(settings.page - 8);
         let large = Large::new(alloc)?;
@@ -68,6 +69,7 @@ impl Old {
         ensures kept { (live : List Extent) (waiting : List ℕ) → HasBlocks self.old space.old live waiting → KeepsWords space.old space.new live }
         ensures outside { KeepsOutside 4294967296 9223372036854775808 space.old space.new }
         ensures arena_words { space.new.arena_words ≡ space.old.arena_words }
+        ensures page { self.new.pages.page ≡ self.old.pages.page }
         ensures small { greatest_small self.new ≡ greatest_small self.old }
         ensures err { (live : List Extent) (waiting : List ℕ) → HasBlocks self.old space.old live waiting → OnErr result (HasBlocks self.new space.new live waiting) }
     {
@@ -86,6 +88,8 @@ impl Old {
         ensures kept { (live : List Extent) (waiting : List ℕ) → HasBlocks self.old space.old ((a, n) ∷ live) waiting → KeepsWords space.old space.new live }
         ensures changes { GivesBack self.old space.old space.new a }
         ensures outside { KeepsOutside 4294967296 9223372036854775808 space.old space.new }
+        ensures arena_words { space.new.arena_words ≡ space.old.arena_words }
+        ensures page { self.new.pages.page ≡ self.old.pages.page }
         ensures small { greatest_small self.new ≡ greatest_small self.old }
     {
         if a < FIRST_LARGE {
@@ -102,6 +106,8 @@ impl Old {
         ensures begun { (live : List Extent) → HasBlocks self.old space.old live [] → BeginsSweep self.new space.new live }
         ensures kept { (live : List Extent) → HasBlocks self.old space.old live [] → KeepsWords space.old space.new live }
         ensures outside { KeepsOutside 4294967296 9223372036854775808 space.old space.new }
+        ensures arena_words { space.new.arena_words ≡ space.old.arena_words }
+        ensures page { self.new.pages.page ≡ self.old.pages.page }
         ensures small { greatest_small self.new ≡ greatest_small self.old }
     {
         self.pages.begin_sweep(space);

@@ -33,6 +33,11 @@ reason_text reason.CountZero = codes "CountZero"
 abbrev pub malformed_text : ℕ → Reason → List ℕ
 malformed_text line reason = (codes "malformed: line " ++ decimal line) ++ ((codes ": " ++ reason_text reason) ++ codes "\n")
 
+abbrev pub limit_text : ℕ → ℕ → ℕ → ℕ → List ℕ
+limit_text line counted request limit =
+    (codes "heap limit: line " ++ decimal line)
+    ++ ((codes ": " ++ decimal counted) ++ ((codes " + " ++ decimal request) ++ ((codes " > " ++ decimal limit) ++ codes "\n")))
+
 abbrev pub usage_text : List ℕ
 usage_text = codes "usage: replay FILE, or bench START COUNT\n"
 

@@ -8,6 +8,15 @@ pub mod StructChecks
 pub mod Structs
 pub mod Roots
 pub mod Sound
+pub mod Reach
+pub mod MinorCollection
+pub mod Marking
+pub mod Sweeping
+pub mod Collections
+pub mod Births
+pub mod Identity
+pub mod PlainCommands
+pub mod MarkingOrder
 pub mod Look
 pub mod Links
 pub mod Refusal

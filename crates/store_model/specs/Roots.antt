@@ -8,11 +8,15 @@ use Rattle.store_model.specs.Structs.{forced_objects}
 abbrev pub is_kept : List Object → ℕ → Bool
 is_kept kept birth = is_some (object_at kept birth)
 
+-- the births of the pinned objects
+abbrev pub pinned_births : Store → List ℕ
+pinned_births store = map (λ entry. entry.0) store.pinned
+
 -- the births of the roots: slots, pinned objects, those that are chosen or queued, and objects that P links keep
 abbrev pub roots_of : Store → List ℕ
 roots_of store =
     filter_map (λ slot. slot) store.slots
-    ++ (store.pinned
+    ++ (pinned_births store
     ++ (map (λ entry. entry.0) store.chosen ++ (flat_map (λ entry. entry.1) store.queues ++ forced_objects store.structs)))
 
 -- the births of the registered objects

@@ -21,9 +21,8 @@ pub record Store : Type 0 where
   pub slots : List (Option ℕ)  -- what each root slot holds
   pub settled : List ℕ  -- the kept objects outside the nursery, by rising birth
   pub homes : Table ℕ  -- the homes that were told
-  pub pinned : List ℕ
+  pub pinned : List (ℕ × ℕ)  -- births of pinned objects, each with how many times it is pinned, in the order of their first pins
   pub registered : List (ℕ × ℕ)  -- births and queues, in order of registration
-  pub ever : List ℕ  -- what was ever registered
   pub chosen : List (ℕ × ℕ)  -- what waits for its queue, in order of registration
   pub queues : Table (List ℕ)  -- the finalizer queues that are not empty
   pub structs : Table Struct  -- the C structures by their numbers
@@ -48,7 +47,6 @@ empty_store settings = record {
   homes = [];
   pinned = [];
   registered = [];
-  ever = [];
   chosen = [];
   queues = [];
   structs = [];

@@ -22,7 +22,7 @@ unpin_checks pinned = (not pinned, NotPinned) ∷ []
 abbrev pub queue_checks : ℕ → ℕ → Checks
 queue_checks queues queue = (nat_le queues queue, NoQueue) ∷ []
 
--- of the object to be registered: whether it ever was
+-- of the object to be registered: whether it is, or waits
 abbrev pub register_checks : Bool → Checks
 register_checks registered = (registered, Registered) ∷ []
 
