@@ -135,3 +135,23 @@ fn weak_object(rt: HostRuntime) -> Result<(), Fail> {
     assert_eq!(rt; v.ref_count, 0);
     Ok(())
 }
+
+#[test]
+#[tactic(auto, using(crate::proofs::WholeLaws::views))]
+fn references_within_one_array(rt: HostRuntime) -> Result<(), Fail> {
+    let info = TypeInfo {
+        shape: Shape::RefArray,
+        destructor: false,
+    };
+    let types = table_of(rt.alloc(), info)?;
+    let mut space = ones(rt.alloc())?;
+    let v = newborn(&mut space, &types, info, 4);
+    set_ref(&mut space, v, 5, 0, 50);
+    set_ref(&mut space, v, 5, 1, 60);
+    set_ref(&mut space, v, 5, 2, 70);
+    move_refs(&mut space, v, 5, 1, v, 5, 0, 3);
+    assert_eq!(rt; words(&space), [1, 7, 9, 4, 50, 50, 60, 70, 1]);
+    move_refs(&mut space, v, 5, 0, v, 5, 1, 3);
+    assert_eq!(rt; words(&space), [1, 7, 9, 4, 50, 60, 70, 70, 1]);
+    Ok(())
+}
