@@ -12,7 +12,7 @@ use Rattle.text_model.specs.declared.line.Phase.TheVariants.{Scanning}
 use Rattle.object_model.specs.declared.settings.Settings.{Settings}
 use Rattle.object_model.specs.Setup.{Setup, small_words}
 use Rattle.store_model.specs.Structs.{Structs}
-use Rattle.old_space.specs.HasBlocks.{HasBlocks, greatest_small}
+use Rattle.old_space.specs.HasBlocks.{page_size, HasBlocks, greatest_small}
 use Rattle.old_space.specs.declared.Old.{Old}
 use Rattle.heap_parts.specs.Remembered.{Remembered, nothing_held}
 
@@ -74,7 +74,7 @@ pub record AreFresh (parts : HeapParts) (settings : Settings) (types : Table Typ
   pub are : parts ≡ started_parts settings types old_blocks
   pub empty : HasBlocks old_blocks (fresh_memory settings.nursery (settings.arena * settings.page)) [] []
   pub small : greatest_small old_blocks ≡ small_words settings
-  pub page : old_blocks.pages.page ≡ settings.page
+  pub page : page_size old_blocks ≡ settings.page
 
 -- the word at each place of a heap
 abbrev pub word_in : HeapParts → ℕ → ℕ

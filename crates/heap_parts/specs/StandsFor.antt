@@ -19,7 +19,7 @@ use Rattle.store_model.specs.Store.{Store, unsettled_words, settled_words, husk_
 use Rattle.object_model.specs.Holds.{HoldsObjects}
 use Rattle.store_model.specs.Sound.{IsSound}
 use Rattle.store_model.specs.MarkingOrder.{IsInOrder}
-use Rattle.old_space.specs.HasBlocks.{greatest_small}
+use Rattle.old_space.specs.HasBlocks.{page_size, greatest_small}
 use Rattle.old_space.specs.declared.Old.{Old}
 use Rattle.heap_parts.specs.Remembered.{Remembered, held_places, is_held_of}
 use Rattle.heap_parts.specs.Parts.{HeapParts, word_in, home_in}
@@ -114,7 +114,7 @@ pub record IsMadeWith (settings : Settings) (memory : Memory) (nursery : Nursery
   pub card : remembered.card ≡ settings.card
   pub arena : memory.arena_words ≡ settings.arena * settings.page
   pub small : greatest_small old_blocks ≡ small_words settings
-  pub page : old_blocks.pages.page ≡ settings.page
+  pub page : page_size old_blocks ≡ settings.page
 
 -- The parts of a heap stand for a store: there are places of its objects, in order of birth, each named by a birth, places of
 -- its husks, and the units that wait. What is told of marking is given, and which blocks were taken and hold nothing yet.

@@ -433,7 +433,7 @@ module _ (heap : HeapParts) (store : Store) (s : PartsStandFor heap store) (swee
     units = subst (λ (ph : Phase). AreUnitsSwept ph settings.sweep store.left o.rest) (sym sweeping)
         (let before : AreUnitsSwept Sweeping settings.sweep store.left s.waiting = subst (λ (ph : Phase). AreUnitsSwept ph settings.sweep store.left s.waiting) sweeping s.units in
         let many : length s.waiting ≡ suc (length o.rest) = ap (length {A = ℕ}) o.waits in (shorter before.0 many, before.1));
-    made = record { ranges = s.made.ranges; words = s.made.words; pins = s.made.pins; card = s.made.card; arena = o.step.arena_words ∙ s.made.arena; small = o.step.small ∙ s.made.small; page = o.step.page ∙ s.made.page };
+    made = record { ranges = s.made.ranges; words = s.made.words; pins = s.made.pins; card = s.made.card; arena = o.step.arena_words ∙ s.made.arena; small = o.step.sizes.small ∙ s.made.small; page = o.step.sizes.page ∙ s.made.page };
     order = s.order;
     sound = husks_sound settings store births store-sweeping s.sound;
   }

@@ -60,8 +60,7 @@ page-lowest old p m after before now births some contract appended arenas sizes 
       b.in_pages b.in_larges b.same b.greatest h.headed b.waits;
   outside = outside-pages m after (outside-arenas m after arenas);
   arena_words = arenas.arena_words;
-  page = sizes.page;
-  small = refl;
+  sizes = record { page = sizes.page; arena = sizes.pages_per_arena; small = refl };
 }
 
 -- the page that is to be swept
@@ -185,8 +184,7 @@ block-step old l m after before now (Ok x) s none some o blocks space told outsi
             appended outside b.in_pages b.in_larges b.same b.greatest h.headed b.waits;
         outside = outside-larges m after outside;
         arena_words = ap (λ (k : Memory). k.arena_words) (space n.live n.first n.rest n.blocks) ∙ swept-arenas m n.first;
-        page = refl;
-        small = refl;
+        sizes = record { page = refl; arena = refl; small = refl };
       },
     )
 block-step old l m after before now (Err e) s none some o blocks space told outside = tt

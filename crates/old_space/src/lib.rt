@@ -15,9 +15,9 @@ mod tests;
 
 use heap_space::Space;
 use large_objects::Large;
+use object_model::Settings;
 use size_pages::Pages;
 use std::alloc::{AllocError, Global};
-use object_model::Settings;
 use sweep_steps::Sweeper;
 
 /// The place of the first large block: below it lie the arenas.
@@ -35,7 +35,7 @@ pub struct Old {
 }
 
 impl Old {
-    ghost use Rattle.old_space.specs.HasBlocks.{HasBlocks, Stands, IsLive, greatest_small};
+    ghost use Rattle.old_space.specs.HasBlocks.{HasBlocks, Stands, IsLive, KeepsSizes, greatest_small, page_size, arena_pages};
     ghost use Rattle.old_space.specs.Headers.{HasHeaders, StandsWithHeaders};
     ghost use Rattle.old_space.specs.Calls.{HasPageSettings, IsEmptyFor, ComesFrom, still_waiting, unit_of, BeginsLive, NoneWaits, BeginsSweep, IsElsewhere, GivesBack};
 
@@ -44,7 +44,8 @@ impl Old {
         requires { HasPageSettings settings.now }
         ensures empty { IfOk result (λ old. (m : Memory) → IsEmptyFor settings.now m → HasBlocks old m [] []) }
         ensures small { IfOk result (λ old. greatest_small old ≡ small_words settings.now) }
-        ensures page { IfOk result (λ old. old.pages.page ≡ settings.now.page) }
+        ensures page { IfOk result (λ old. page_size old ≡ settings.now.page) }
+        ensures arena { IfOk result (λ old. arena_pages old ≡ settings.now.arena) }
     {
         let small = settings.small.min(settings.page - 8);
         let large = Large::new(alloc)?;
@@ -69,8 +70,7 @@ impl Old {
         ensures kept { (live : List Extent) (waiting : List ℕ) → HasBlocks self.old space.old live waiting → KeepsWords space.old space.new live }
         ensures outside { KeepsOutside 4294967296 9223372036854775808 space.old space.new }
         ensures arena_words { space.new.arena_words ≡ space.old.arena_words }
-        ensures page { self.new.pages.page ≡ self.old.pages.page }
-        ensures small { greatest_small self.new ≡ greatest_small self.old }
+        ensures sizes { KeepsSizes self.old self.new }
         ensures err { (live : List Extent) (waiting : List ℕ) → HasBlocks self.old space.old live waiting → OnErr result (HasBlocks self.new space.new live waiting) }
     {
         if n <= self.small {
@@ -89,8 +89,7 @@ impl Old {
         ensures changes { GivesBack self.old space.old space.new a }
         ensures outside { KeepsOutside 4294967296 9223372036854775808 space.old space.new }
         ensures arena_words { space.new.arena_words ≡ space.old.arena_words }
-        ensures page { self.new.pages.page ≡ self.old.pages.page }
-        ensures small { greatest_small self.new ≡ greatest_small self.old }
+        ensures sizes { KeepsSizes self.old self.new }
     {
         if a < FIRST_LARGE {
             self.pages.give_back(space, a, n);
@@ -107,8 +106,7 @@ impl Old {
         ensures kept { (live : List Extent) → HasBlocks self.old space.old live [] → KeepsWords space.old space.new live }
         ensures outside { KeepsOutside 4294967296 9223372036854775808 space.old space.new }
         ensures arena_words { space.new.arena_words ≡ space.old.arena_words }
-        ensures page { self.new.pages.page ≡ self.old.pages.page }
-        ensures small { greatest_small self.new ≡ greatest_small self.old }
+        ensures sizes { KeepsSizes self.old self.new }
     {
         self.pages.begin_sweep(space);
         self.large.begin_sweep(space);

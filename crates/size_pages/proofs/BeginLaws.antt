@@ -10,7 +10,7 @@ use Rattle.size_pages.specs.LiveBlocks.{page_at}
 use Rattle.size_pages.specs.PageLists.{IsPage, SameSigns, Unlinks}
 use Rattle.size_pages.specs.HasBlocks.{HasBlocksBut, HasBlocks, Stands, KeepsSizes}
 use Rattle.size_pages.specs.Steps.{IsOnlyHeads, CanTakeOff, CanStart, CanTakeUnlisted}
-use Rattle.size_pages.specs.Growth.{AllUsed, HasUnused, IsRaised, IsLowestUnused, IsOnlyCounts, IsOnlyOrder, CanList, ListsPages, AddsPages, BeginsPage}
+use Rattle.size_pages.specs.Growth.{IsEmptyPage, AllUsed, HasUnused, IsRaised, IsLowestUnused, IsOnlyCounts, IsOnlyOrder, CanList, ListsPages, AddsPages, BeginsPage}
 use Rattle.size_pages.specs.declared.Pages.{Pages}
 use Rattle.size_pages.proofs.FitLaws.{pages_part}
 use Rattle.size_pages.proofs.FitsLaws.{page_mono, header_has, places_of, below_of}
@@ -168,8 +168,8 @@ some_words pages m st =
     let p : pages.page * 1 ≤ pages.page * pages.pages_per_arena = grind arith in omega arith
 
 -- a page is begun where some is unused
-pub begins_old : (pages after : Pages) (m new : Memory) (page n : ℕ) → Stands pages m → HasUnused (word_in m) pages.page pages.count → CanTakeUnlisted after new page n → ((live : List Extent) (waiting : List ℕ) → HasBlocks pages m live waiting → HasBlocksBut after new live waiting page 0) → ((live : List Extent) (waiting : List ℕ) → HasBlocks pages m live waiting → KeepsWords m new live) → IsLowestUnused (word_in m) pages.page pages.count page → IsOnlyCounts pages after → IsInArenas m new → BeginsPage pages after m new page n
-begins_old pages after m new page n st u can started kept low counts s =
+pub begins_old : (pages after : Pages) (m new : Memory) (page n : ℕ) → Stands pages m → HasUnused (word_in m) pages.page pages.count → CanTakeUnlisted after new page n → ((live : List Extent) (waiting : List ℕ) → HasBlocks pages m live waiting → HasBlocksBut after new live waiting page 0) → ((live : List Extent) (waiting : List ℕ) → HasBlocks pages m live waiting → KeepsWords m new live) → IsLowestUnused (word_in m) pages.page pages.count page → IsOnlyCounts pages after → IsInArenas m new → IsEmptyPage (word_in new) page → BeginsPage pages after m new page n
+begins_old pages after m new page n st u can started kept low counts s empty =
     let some : 0 < m.arena_words = some_words pages m st in
     let same : new.next_arena ≡ m.next_arena = s.next_arena in
     let size = pages.page in
@@ -180,7 +180,8 @@ begins_old pages after m new page n st u can started kept low counts s =
       started = started;
       kept = kept;
       unused = low.unused;
-      lower = λ k below less. low.lower k (elim (cases_lt k low.is_page.number) [ inl a ↦ a | inr b ↦ absurd (let up : page_at size low.is_page.number ≤ page_at size k = page_mono size low.is_page.number k b in omega arith) ]);
+      empty = empty;
+      lower = λ k less. low.lower k (elim (cases_lt k low.is_page.number) [ inl a ↦ a | inr b ↦ absurd (let up : page_at size low.is_page.number ≤ page_at size k = page_mono size low.is_page.number k b in omega arith) ]);
       one = inl same;
       exactly = (λ e. absurd (omega arith), λ all. absurd (all u.number u.below u.unused));
       size = s.arena_words;
@@ -189,8 +190,8 @@ begins_old pages after m new page n st u can started kept low counts s =
     }
 
 -- a page of the new arena is begun where none is unused
-pub begins_new : (pages p1 after : Pages) (m m1 new : Memory) (page n : ℕ) → Stands pages m → AllUsed (word_in m) pages.page pages.count → AddsPages pages p1 m m1 → CanTakeUnlisted after new page n → ((live : List Extent) (waiting : List ℕ) → HasBlocks p1 m1 live waiting → HasBlocksBut after new live waiting page 0) → ((live : List Extent) (waiting : List ℕ) → HasBlocks p1 m1 live waiting → KeepsWords m1 new live) → IsLowestUnused (word_in m1) p1.page p1.count page → IsOnlyCounts p1 after → IsInArenas m1 new → BeginsPage pages after m new page n
-begins_new pages p1 after m m1 new page n st all a can started kept low counts s =
+pub begins_new : (pages p1 after : Pages) (m m1 new : Memory) (page n : ℕ) → Stands pages m → AllUsed (word_in m) pages.page pages.count → AddsPages pages p1 m m1 → CanTakeUnlisted after new page n → ((live : List Extent) (waiting : List ℕ) → HasBlocks p1 m1 live waiting → HasBlocksBut after new live waiting page 0) → ((live : List Extent) (waiting : List ℕ) → HasBlocks p1 m1 live waiting → KeepsWords m1 new live) → IsLowestUnused (word_in m1) p1.page p1.count page → IsOnlyCounts p1 after → IsInArenas m1 new → IsEmptyPage (word_in new) page → BeginsPage pages after m new page n
+begins_new pages p1 after m m1 new page n st all a can started kept low counts s empty =
     let next : new.next_arena ≡ m.next_arena + m.arena_words = s.next_arena ∙ a.next in
     let size : p1.page ≡ pages.page = a.sizes.page in
     let at : page ≡ page_at pages.page low.is_page.number = low.is_page.is ∙ ap (λ (k : ℕ). page_at k low.is_page.number) size in
@@ -200,7 +201,13 @@ begins_new pages p1 after m m1 new page n st all a can started kept low counts s
       started = λ live waiting f. started live waiting (a.added live waiting f);
       kept = λ live waiting f. keeps_then m m1 new live (a.kept live waiting f) (kept live waiting (a.added live waiting f));
       unused = ap (word_in m) at ∙ sym (a.classes low.is_page.number) ∙ ap (word_in m1) (sym at) ∙ low.unused;
-      lower = λ k below less. all k below;
+      empty = empty;
+      lower = λ k less z.
+          let below : k < low.is_page.number = (elim (cases_lt k low.is_page.number) [
+            | inl l ↦ l
+            | inr r ↦ absurd (let up : page_at pages.page low.is_page.number ≤ page_at pages.page k = page_mono pages.page low.is_page.number k r in omega (arith, up, less, at))
+          ]) in
+          low.lower k below (ap (λ (q : ℕ). word_in m1 (page_at q k)) size ∙ a.classes k ∙ z);
       one = inr next;
       exactly = (λ e. all, λ e. next);
       size = s.arena_words ∙ a.size;

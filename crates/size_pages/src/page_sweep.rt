@@ -3,7 +3,7 @@
 ghost use Rattle.std.specs.Prelude.{◌≡◌, ℕ, ◌+◌, ◌-◌, ◌/◌, ◌<◌, ◌≤◌, ◌∷◌, List, OnOk, OnErr};
 ghost use Rattle.heap_space.specs.Extents.{Extent};
 ghost use Rattle.size_pages.specs.PageWords.{word_in, HasAll, IsInArenas};
-ghost use Rattle.size_pages.specs.HasBlocks.{HasBlocks, HasBlocksBut, Stands, KeepsSizes};
+ghost use Rattle.size_pages.specs.HasBlocks.{page_size, HasBlocks, HasBlocksBut, Stands, KeepsSizes};
 ghost use Rattle.size_pages.specs.PageLists.{SameSigns, Unlinks};
 ghost use Rattle.size_pages.specs.Headers.{HasHeaders};
 ghost use Rattle.size_pages.specs.SweepSteps.{IsOnlyLists};
@@ -44,7 +44,7 @@ impl Pages {
     /// memory alone, and leaves everything as it was.
     pub fn sweep_page(&mut self, space: &mut Space, freed: &mut Vec<u64>) -> Result<(), AllocError>
         requires { CanSweep self.old space.old }
-        ensures swept { (live : List Extent) (page : ℕ) (rest : List ℕ) → HasHeaders self.old space.old live (page ∷ rest) → OnOk result (SweepsPage self.new space.old space.new self.old.page live page rest freed.old.items freed.new.items) }
+        ensures swept { (live : List Extent) (page : ℕ) (rest : List ℕ) → HasHeaders self.old space.old live (page ∷ rest) → OnOk result (SweepsPage self.new space.old space.new (page_size self.old) live page rest freed.old.items freed.new.items) }
         ensures err { OnErr result (self.new ≡ self.old) }
         ensures err_space { OnErr result (space.new ≡ space.old) }
         ensures err_freed { OnErr result (freed.new.items ≡ freed.old.items) }
