@@ -7,3 +7,4 @@ pub mod ItemText
 pub mod ItemLine
 pub mod Script
 pub mod Text
+pub mod Generated
