@@ -7,7 +7,7 @@ use Rattle.std.proofs.lemmas.Nat.{le-div}
 use Rattle.std.proofs.Math.Nat.{div-mul-le_self}
 use Rattle.std.proofs.lemmas.List.{map-append, append_assoc}
 use Rattle.std.proofs.lemmas.Bool.Decides.{eqb_tells}
-use Rattle.object_view.proofs.WordLaws.{is_in-head, is_in-tail, is_in-cases, is_in-nil, is_in-before, is_in-append}
+use Rattle.object_model.proofs.Members.{is_in-head, is_in-tail, is_in-cases, is_in-nil, is_in-before, is_in-append, in-left, in-right, in-either}
 use Rattle.type_table.specs.declared.info.Shape.{Shape}
 use Rattle.type_table.specs.declared.info.Shape.TheVariants.{Fixed, IntArray, RefArray, Weak}
 use Rattle.type_table.specs.declared.info.TypeInfo.{TypeInfo}
@@ -22,7 +22,6 @@ use Rattle.object_model.specs.Newborn.{Request, newborn}
 use Rattle.store_model.specs.Birth.{with_birth, settled_with}
 use Rattle.store_model.specs.Roots.{is_kept, roots_of, referents_in, target_in, pinned_births}
 use Rattle.store_model.specs.Sound.{IsSound, IsPhaseSound, AreCutOff, AreGone, AreBefore, births_in}
-use Rattle.heap_parts.proofs.Members.{in-left, in-right, in-either}
 use Rattle.heap_parts.proofs.RootLaws.{roots_each, are_roots, set-in}
 use Rattle.heap_parts.proofs.OrderLaws.{PlainChange}
 

@@ -5,7 +5,7 @@ use Rattle.std.specs.List.{IsDistinct, AllByRecursion, All, cons_option}
 use Rattle.std.proofs.lemmas.Bool.{cases_Bool}
 use Rattle.std.proofs.lemmas.Bool.Decides.{eqb_tells, nat_tests}
 use Rattle.type_table.specs.Table.{Table, KeysRise, value_at}
-use Rattle.object_view.proofs.WordLaws.{is_in-head, is_in-tail, is_in-cases, is_in-nil}
+use Rattle.object_model.proofs.Members.{is_in-head, is_in-tail, is_in-cases, is_in-nil, in-left, in-right, in-either}
 use Rattle.text_model.specs.declared.line.Fate.{Fate}
 use Rattle.text_model.specs.declared.line.Fate.TheVariants as fate
 use Rattle.text_model.specs.declared.line.LinkEnd.{LinkEnd}
@@ -16,7 +16,6 @@ use Rattle.store_model.specs.Roots.{is_kept}
 use Rattle.store_model.specs.Structs.{object_of}
 use Rattle.store_model.specs.Links.{cut_links, entry_after, struct_after, link_end, link_ends, newly_dead, left_by, fate_of, is_queued_by}
 use Rattle.store_model.specs.Sound.{AreLinksSound, IsOwnSound, p_linked_object}
-use Rattle.heap_parts.proofs.Members.{in-left, in-right, in-either}
 use Rattle.heap_parts.proofs.Filters.{distinct_append}
 use Rattle.type_table.proofs.TableLaws.{KeysRise-tail, KeysRise-cons, first_key_below}
 use Rattle.std.proofs.lemmas.List.Elements.{All-head, All-tail, All-cons}

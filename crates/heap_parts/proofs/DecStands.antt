@@ -4,7 +4,7 @@ use Rattle.std.specs.Prelude.{IsFalse, option_map, option_and_then, ◌==◌, no
 use Rattle.std.specs.List.{IsDistinct}
 use Rattle.std.proofs.lemmas.Bool.{cases_Bool, ne_eqb}
 use Rattle.std.proofs.lemmas.Bool.Decides.{eqb_tells}
-use Rattle.object_view.proofs.WordLaws.{is_in-head}
+use Rattle.object_model.proofs.Members.{is_in-head}
 use Rattle.type_table.specs.Table.{Table, KeysRise, value_at, with_value}
 use Rattle.type_table.proofs.TableLaws.{value_at-with_value, value_at-without_key, KeysRise-with_value, KeysRise-entries_where}
 use Rattle.store_model.specs.Store.{Store, Struct, Linked, Unlinked, Pending}

@@ -9,8 +9,7 @@ use Rattle.std.proofs.lemmas.List.{map-append, append_assoc}
 use Rattle.std.proofs.lemmas.List.Sorted.{IsPermutation-map, IsPermutation-filter_both, IsPermutation-append_left}
 use Rattle.heap_space.specs.Extents.{Extent}
 use Rattle.large_objects.proofs.Same.{filter-same, same-permutation, permutation-same}
-use Rattle.object_view.proofs.WordLaws.{is_in-head, is_in-tail}
-use Rattle.object_view.proofs.SurvivorLaws.{filter-member}
+use Rattle.object_model.proofs.Members.{is_in-head, is_in-tail, filter-member}
 use Rattle.object_model.specs.Sets.{is_in}
 
 pub not-true : (b : Bool) → not b ≡ true → b ≡ false

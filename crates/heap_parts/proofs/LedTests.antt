@@ -3,10 +3,9 @@ use Rattle.std.proofs.Common.{◌≡◌, ℕ, zero, suc, ◌+◌, ◌≤◌, ◌
 use Rattle.std.specs.Prelude.{not, ◌&&◌, ◌||◌, filter}
 use Rattle.std.specs.List.{list_any}
 use Rattle.std.proofs.lemmas.Bool.{cases_Bool}
-use Rattle.object_view.proofs.WordLaws.{is_in-head, is_in-tail, is_in-cases, is_in-nil}
+use Rattle.object_model.proofs.Members.{is_in-head, is_in-tail, is_in-cases, is_in-nil, or_cases, or_first, or_second}
 use Rattle.object_model.specs.Sets.{is_in}
 use Rattle.store_model.specs.Reach.{Tells, Leads, LeadsTo}
-use Rattle.heap_parts.proofs.HeldLaws.{or-either, or-first, or-second}
 
 -- paths
 pub leads_on : (step : ℕ → ℕ → Bool) (x : ℕ) (path : List ℕ) (y z : ℕ) → Leads step x path y → IsTrue (step y z) → Leads step x (path ++ z ∷ []) z
@@ -24,7 +23,7 @@ record Passes (f : ℕ → Bool) (xs : List ℕ) : Type 0 where
 
 any-member : (f : ℕ → Bool) (xs : List ℕ) → list_any f xs ≡ true → Passes f xs
 any-member f [] t = absurd (let no : ⊥ = cc in no)
-any-member f (x ∷ xs) t = elim (or-either (f x) (list_any f xs) t) [
+any-member f (x ∷ xs) t = elim (or_cases (f x) (list_any f xs) t) [
   | inl here ↦ record { by = x; there = is_in-head x xs; passes = here }
   | inr more ↦ let m = any-member f xs more in record { by = m.by; there = is_in-tail m.by x xs m.there; passes = m.passes }
 ]
@@ -32,8 +31,8 @@ any-member f (x ∷ xs) t = elim (or-either (f x) (list_any f xs) t) [
 member-any : (f : ℕ → Bool) (xs : List ℕ) (x : ℕ) → IsTrue (is_in x xs) → f x ≡ true → list_any f xs ≡ true
 member-any f [] x t e = absurd (is_in-nil x t)
 member-any f (y ∷ ys) x t e = elim (is_in-cases x y ys t) [
-  | inl is ↦ or-first (f y) (list_any f ys) (subst (λ (k : ℕ). f k ≡ true) is e)
-  | inr u ↦ or-second (f y) (list_any f ys) (member-any f ys x u e)
+  | inl is ↦ or_first (f y) (list_any f ys) (subst (λ (k : ℕ). f k ≡ true) is e)
+  | inr u ↦ or_second (f y) (list_any f ys) (member-any f ys x u e)
 ]
 
 -- how many pass
@@ -102,7 +101,7 @@ module _ (start : ℕ → Bool) (step : ℕ → ℕ → Bool) (all : List ℕ) (
 
   led-rounds : (n : ℕ) (y : ℕ) → rounds n y ≡ true → Led y
   led-rounds zero y t = (y, t, [], refl)
-  led-rounds (suc n) y t = elim (or-either (rounds n y) (list_any (λ x. rounds n x && step x y) all) t) [
+  led-rounds (suc n) y t = elim (or_cases (rounds n y) (list_any (λ x. rounds n x && step x y) all) t) [
     | inl e ↦ led-rounds n y e
     | inr e ↦
         let m = any-member (λ x. rounds n x && step x y) all e in
@@ -116,7 +115,7 @@ module _ (start : ℕ → Bool) (step : ℕ → ℕ → Bool) (all : List ℕ) (
   IsShut f = (y : ℕ) → IsTrue (is_in y all) → grown f y ≡ true → f y ≡ true
 
   grows : (n : ℕ) (y : ℕ) → rounds n y ≡ true → rounds (suc n) y ≡ true
-  grows n y e = or-first (rounds n y) (list_any (λ x. rounds n x && step x y) all) e
+  grows n y e = or_first (rounds n y) (list_any (λ x. rounds n x && step x y) all) e
 
   -- whether some birth is added
   added : (f : ℕ → Bool) → IsShut f ⊎ Passes (λ y. grown f y && not (f y)) all
@@ -161,7 +160,7 @@ module _ (start : ℕ → Bool) (step : ℕ → ℕ → Bool) (all : List ℕ) (
       led-rounds shut.round y,
       λ l. (leads-keeps step (λ z. (rounds shut.round z ≡ true) × IsTrue (is_in z all))
           (λ x z p t. let there = steps x z t in (
-            shut.is z there (or-second (rounds shut.round z) (list_any (λ w. rounds shut.round w && step w z) all)
+            shut.is z there (or_second (rounds shut.round z) (list_any (λ w. rounds shut.round w && step w z) all)
                 (member-any (λ w. rounds shut.round w && step w z) all x p.1 (and-true (rounds shut.round x) (step x z) p.0 t))),
             there,
           ))

@@ -4,7 +4,7 @@ use Rattle.std.specs.Prelude.{filter_map, ◌==◌, ◌&&◌}
 use Rattle.std.specs.List.{list_any}
 use Rattle.std.proofs.lemmas.Bool.{eq-eqb}
 use Rattle.std.proofs.lemmas.Bool.Decides.{eqb_tells}
-use Rattle.object_view.proofs.WordLaws.{is_in-head, is_in-tail}
+use Rattle.object_model.proofs.Members.{is_in-head, is_in-tail, in-left, or_cases, or_first, or_second}
 use Rattle.store_model.specs.Store.{Store}
 use Rattle.object_model.specs.Sets.{is_in}
 use Rattle.store_model.specs.Slots.{held}
@@ -16,9 +16,8 @@ use Rattle.heap_parts.specs.Parts.{HeapParts, place_in}
 use Rattle.heap_parts.specs.Places.{old_places}
 use Rattle.heap_parts.specs.StandsFor.{PartsStandFor}
 use Rattle.heap_parts.specs.Effects.{with_barrier, with_word_at, ref_place, layout_in}
-use Rattle.heap_parts.proofs.Members.{in-left}
 use Rattle.heap_parts.proofs.SlotLaws.{held-named, slot-pointer}
-use Rattle.heap_parts.proofs.HeldLaws.{or-either, or-first, or-second, whole_here}
+use Rattle.heap_parts.proofs.HeldLaws.{whole_here}
 use Rattle.heap_parts.proofs.BarrierLaws.{barrier_stands}
 use Rattle.heap_parts.proofs.StandLaws.{link_stands}
 
@@ -36,13 +35,13 @@ held_root store slot y e = in-left y (filter_map (λ s. s) store.slots) _ (held-
 whole-covers : (card : ℕ) (hs : List Held) (name : ℕ → ℕ) (p i : ℕ) → IsTrue (list_any (λ h. h.place == p && h.is_whole) hs)
     → IsTrue (list_any (λ h. name h.place == name p && holds_item card h i) hs)
 whole-covers card [] name p i t = t
-whole-covers card (h ∷ hs) name p i t = elim (or-either (h.place == p && h.is_whole) (list_any (λ g. g.place == p && g.is_whole) hs) t) [
-  | inl here ↦ or-first (name h.place == name p && holds_item card h i) (list_any (λ g. name g.place == name p && holds_item card g i) hs)
+whole-covers card (h ∷ hs) name p i t = elim (or_cases (h.place == p && h.is_whole) (list_any (λ g. g.place == p && g.is_whole) hs) t) [
+  | inl here ↦ or_first (name h.place == name p && holds_item card h i) (list_any (λ g. name g.place == name p && holds_item card g i) hs)
       (elim (eqb_tells h.place p) [
-        | inl e ↦ rw (eq-eqb (name h.place) (name p) (ap name e.1)) (let w : IsTrue h.is_whole = subst (λ (b : Bool). IsTrue (b && h.is_whole)) e.0 here in or-first h.is_whole _ w)
+        | inl e ↦ rw (eq-eqb (name h.place) (name p) (ap name e.1)) (let w : IsTrue h.is_whole = subst (λ (b : Bool). IsTrue (b && h.is_whole)) e.0 here in or_first h.is_whole _ w)
         | inr e ↦ absurd (let f : (h.place == p && h.is_whole) ≡ false = rw e.0 refl in let no : ⊥ = cc in no)
       ])
-  | inr there ↦ or-second (name h.place == name p && holds_item card h i) (list_any (λ g. name g.place == name p && holds_item card g i) hs) (whole-covers card hs name p i there)
+  | inr there ↦ or_second (name h.place == name p && holds_item card h i) (list_any (λ g. name g.place == name p && holds_item card g i) hs) (whole-covers card hs name p i there)
 ]
 
 -- The settled object in a slot is remembered, and then gets a reference to what another slot holds.

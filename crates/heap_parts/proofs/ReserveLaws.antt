@@ -19,7 +19,8 @@ use Rattle.heap_space.specs.Extents.{Extent, Each, IsApart, AreApart}
 use Rattle.heap_space.proofs.Blocks.{lies-with_word}
 use Rattle.object_header.specs.Words.{has_flag}
 use Rattle.object_header.specs.declared.flags.Flag.TheVariants.{HasShadow, Pinned, HasCards}
-use Rattle.object_view.proofs.WordLaws.{is_in-head, is_in-tail, is_in-cases, is_in-nil, is_in-append, updated-here, updated-other}
+use Rattle.object_view.proofs.WordLaws.{updated-here, updated-other}
+use Rattle.object_model.proofs.Members.{is_in-head, is_in-tail, is_in-cases, is_in-nil, is_in-append, filter_map-agree, in-either}
 use Rattle.object_view.proofs.LayoutLaws.{laid_out, info_at-same}
 use Rattle.object_view.proofs.SpaceLaws.{word_at-written, lies-at}
 use Rattle.object_view.proofs.FrameLaws.{header_holds}
@@ -41,7 +42,7 @@ use Rattle.heap_parts.specs.OldSpace.{reserved_block, reserved_blocks, reserved_
 use Rattle.heap_parts.specs.Headers.{IsYoungHeader, IsShadowHeader, keeps_cards}
 use Rattle.heap_parts.specs.StandsFor.{PartsStandFor, HoldsWords}
 use Rattle.heap_parts.proofs.Births.{rise-differ}
-use Rattle.heap_parts.proofs.Members.{filter_map-agree, each-left, each-right, in-either}
+use Rattle.heap_parts.proofs.Members.{each-left, each-right}
 use Rattle.heap_parts.proofs.BlockLaws.{each-member}
 use Rattle.heap_parts.proofs.PlaceLaws.{young-is_in, old-is_in}
 use Rattle.heap_parts.proofs.KeepWords.{SameObjects, words_kept, firsts-stay}

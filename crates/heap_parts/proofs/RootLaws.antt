@@ -3,7 +3,7 @@ use Rattle.std.proofs.Common.{◌≡◌, ℕ, zero, suc, ◌⊎◌, Bool, IsTrue
 use Rattle.std.specs.Prelude.{IsFalse, filter_map, flat_map, slice_set}
 use Rattle.std.specs.List.{IsDistinct}
 use Rattle.std.proofs.lemmas.Bool.{cases_Bool}
-use Rattle.object_view.proofs.WordLaws.{is_in-head, is_in-tail, is_in-cases, is_in-nil}
+use Rattle.object_model.proofs.Members.{is_in-head, is_in-tail, is_in-cases, is_in-nil, in-left, in-right, in-either}
 use Rattle.type_table.specs.Table.{KeysRise}
 use Rattle.text_model.specs.declared.line.Phase.{Phase}
 use Rattle.text_model.specs.declared.line.Phase.TheVariants.{Scanning, Marking, Sweeping, Finalizing}
@@ -15,7 +15,6 @@ use Rattle.store_model.specs.Structs.{forced_objects}
 use Rattle.store_model.specs.Roots.{is_kept, roots_of, registered_births, pinned_births, referents_in}
 use Rattle.store_model.specs.MarkingOrder.{AreAllIn, IsInOrder}
 use Rattle.store_model.specs.Sound.{IsSound, IsPhaseSound, AreCutOff, ArePinsSound, AreLinksSound, waiting_births}
-use Rattle.heap_parts.proofs.Members.{in-left, in-right, in-either}
 use Rattle.heap_parts.proofs.SoundLaws.{CanBeRoot}
 
 -- fewer objects are unreached and doomed, and what is left is cut off still

@@ -14,7 +14,7 @@ use Rattle.old_space.specs.HasBlocks.{HasBlocks, greatest_small}
 use Rattle.old_space.specs.declared.Old.{Old}
 use Rattle.type_table.specs.declared.info.TypeInfo.{TypeInfo}
 use Rattle.type_table.specs.Table.{Table}
-use Rattle.object_view.proofs.WordLaws.{is_in-cases, is_in-nil}
+use Rattle.object_model.proofs.Members.{is_in-cases, is_in-nil}
 use Rattle.object_view.proofs.FrameLaws.{none_hold}
 use Rattle.object_model.specs.declared.settings.Settings.{Settings}
 use Rattle.object_model.specs.Setup.{small_words}

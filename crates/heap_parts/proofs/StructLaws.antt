@@ -5,7 +5,7 @@ use Rattle.std.specs.List.{IsDistinct, cons_option, All}
 use Rattle.std.proofs.lemmas.List.Elements.{All-head, All-tail}
 use Rattle.std.proofs.lemmas.Bool.Decides.{eqb_tells, nat_tests}
 use Rattle.std.proofs.lemmas.Map.Made.{lookup-map_values}
-use Rattle.object_view.proofs.WordLaws.{is_in-head, is_in-tail, is_in-cases, is_in-nil}
+use Rattle.object_model.proofs.Members.{is_in-head, is_in-tail, is_in-cases, is_in-nil}
 use Rattle.type_table.specs.Table.{Table, KeysRise, value_at, with_value, without_key}
 use Rattle.type_table.proofs.TableLaws.{first_key_below, KeysRise-tail}
 use Rattle.object_model.specs.Object.{Object}

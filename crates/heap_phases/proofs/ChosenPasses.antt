@@ -4,11 +4,8 @@ use Rattle.std.specs.Prelude.{IsFalse, not, ◌==◌, ◌&&◌, ◌||◌, if◌t
 use Rattle.std.specs.List.{list_any}
 use Rattle.std.proofs.lemmas.Bool.{cases_Bool, eq-eqb, ne_eqb}
 use Rattle.std.proofs.lemmas.Bool.Decides.{eqb_tells}
-use Rattle.object_view.proofs.WordLaws.{is_in-head, is_in-tail, is_in-cases, is_in-nil}
+use Rattle.object_model.proofs.Members.{is_in-head, is_in-tail, is_in-cases, is_in-nil, in-left, in-right, in-either, or_cases, or_first, or_second, not_both}
 use Rattle.object_model.specs.Sets.{is_in}
-use Rattle.heap_parts.proofs.Members.{in-left, in-right, in-either}
-use Rattle.heap_phases.proofs.EndStore.{clash}
-use Rattle.heap_parts.proofs.HeldLaws.{or-either, or-first, or-second}
 
 -- whether one of them reaches x
 abbrev pub is_reached : (ℕ → ℕ → Bool) → List ℕ → ℕ → Bool
@@ -47,7 +44,7 @@ pub record ReachedBy (r : ℕ → ℕ → Bool) (hs : List ℕ) (x : ℕ) : Type
 module _ (r : ℕ → ℕ → Bool) (self : (x : ℕ) → r x x ≡ true) (joins : (x y z : ℕ) → r x y ≡ true → r y z ≡ true → r x z ≡ true) where
   by-one : (hs : List ℕ) (x : ℕ) → is_reached r hs x ≡ true → ReachedBy r hs x
   by-one [] x t = absurd (let no : ⊥ = cc in no)
-  by-one (h ∷ hs) x t = elim (or-either (r h x) (is_reached r hs x) t) [
+  by-one (h ∷ hs) x t = elim (or_cases (r h x) (is_reached r hs x) t) [
     | inl here ↦ record { by = h; there = is_in-head h hs; reaches = here }
     | inr more ↦ let m = by-one hs x more in record { by = m.by; there = is_in-tail m.by h hs m.there; reaches = m.reaches }
   ]
@@ -55,8 +52,8 @@ module _ (r : ℕ → ℕ → Bool) (self : (x : ℕ) → r x x ≡ true) (joins
   one-by : (hs : List ℕ) (x h : ℕ) → IsTrue (is_in h hs) → r h x ≡ true → is_reached r hs x ≡ true
   one-by [] x h t e = absurd (is_in-nil h t)
   one-by (g ∷ hs) x h t e = elim (is_in-cases h g hs t) [
-    | inl is ↦ or-first (r g x) (is_reached r hs x) (subst (λ (k : ℕ). r k x ≡ true) is e)
-    | inr u ↦ or-second (r g x) (is_reached r hs x) (one-by hs x h u e)
+    | inl is ↦ or_first (r g x) (is_reached r hs x) (subst (λ (k : ℕ). r k x ≡ true) is e)
+    | inr u ↦ or_second (r g x) (is_reached r hs x) (one-by hs x h u e)
   ]
 
   -- a candidate is one of them, and none that was done reaches it
@@ -148,7 +145,7 @@ module _ (r : ℕ → ℕ → Bool) (self : (x : ℕ) → r x x ≡ true) (joins
         where
           not-first : (h : ℕ) → IsTrue (is_in h ys) → IsFalse (is_before h x ys) → IsFalse (is_before h x (y ∷ ys))
           not-first h u f = elim (eqb_tells y h) [
-            | inl is ↦ absurd (clash (is_in y ys) (subst (λ (k : ℕ). IsTrue (is_in k ys)) (sym is.1) u) once.0)
+            | inl is ↦ absurd (not_both (is_in y ys) (subst (λ (k : ℕ). IsTrue (is_in k ys)) (sym is.1) u) once.0)
             | inr other ↦ rw other.0 (rw f (none (y == x)))
           ]
             where
@@ -198,7 +195,7 @@ module _ (r : ℕ → ℕ → Bool) (self : (x : ℕ) → r x x ≡ true) (joins
         | inl t ↦ absurd (
             let b = by-one (candidates r (done ++ y ∷ []) ys) y t in
             let part = candidate-part (done ++ y ∷ []) ys b.by b.there in
-            let ne : b.by ≢ x = λ e. clash (is_in y ys) (subst (λ (k : ℕ). IsTrue (is_in k ys)) (e ∙ sym is) part.0) once.0 in
+            let ne : b.by ≢ x = λ e. not_both (is_in y ys) (subst (λ (k : ℕ). IsTrue (is_in k ys)) (e ∙ sym is) part.0) once.0 in
             let w = f.gives_way b.by (is_in-tail b.by y ys part.0) ne (subst (λ (k : ℕ). r b.by k ≡ true) is b.reaches) in
             let yes : is_reached r (done ++ y ∷ []) b.by ≡ true = one-by (done ++ y ∷ []) b.by y (in-right y done (y ∷ []) (is_in-head y [])) (subst (λ (k : ℕ). r k b.by ≡ true) (sym is) w.0) in
             let out = part.1 in let no : ⊥ = cc in no)
@@ -215,7 +212,7 @@ module _ (r : ℕ → ℕ → Bool) (self : (x : ℕ) → r x x ≡ true) (joins
           let in_rest : IsTrue (is_in x ys) = elim (is_in-cases x y ys f.there) [ inl e ↦ absurd (other.1 (sym e)) | inr u ↦ u ] in
           let no_y : r y x ≡ false = elim (cases_Bool (r y x)) [
             | inl e ↦ absurd (let w = f.gives_way y (is_in-head y ys) other.1 e in
-                let before : is_before y x (y ∷ ys) ≡ true = rw (other.0, eq-eqb y y refl) refl in let no : ⊥ = clash (is_before y x (y ∷ ys)) before w.1 in no)
+                let before : is_before y x (y ∷ ys) ≡ true = rw (other.0, eq-eqb y y refl) refl in let no : ⊥ = not_both (is_before y x (y ∷ ys)) before w.1 in no)
             | inr e ↦ e
           ] in
           let out : is_reached r (done ++ y ∷ []) x ≡ false = elim (cases_Bool (is_reached r (done ++ y ∷ []) x)) [
@@ -230,13 +227,13 @@ module _ (r : ℕ → ℕ → Bool) (self : (x : ℕ) → r x x ≡ true) (joins
           ] in
           let first : IsFirst r ys x = record {
             there = in_rest;
-            gives_way = λ h t ne e. let w = f.gives_way h (is_in-tail h y ys t) ne e in (w.0, later h (λ same. clash (is_in y ys) (subst (λ (k : ℕ). IsTrue (is_in k ys)) (sym same) t) once.0) other.1 w.1);
+            gives_way = λ h t ne e. let w = f.gives_way h (is_in-tail h y ys t) ne e in (w.0, later h (λ same. not_both (is_in y ys) (subst (λ (k : ℕ). IsTrue (is_in k ys)) (sym same) t) once.0) other.1 w.1);
           } in
           kept (more first out)
         where
           later : (h : ℕ) → (y ≡ h → ⊥) → y ≢ x → IsFalse (is_before h x (y ∷ ys)) → IsFalse (is_before h x ys)
           later h ne nx e = elim (cases_Bool (is_before h x ys)) [
-            | inl t ↦ absurd (let yes : is_before h x (y ∷ ys) ≡ true = rw (ne_eqb y x nx, ne_eqb y h ne) t in clash (is_before h x (y ∷ ys)) yes e)
+            | inl t ↦ absurd (let yes : is_before h x (y ∷ ys) ≡ true = rw (ne_eqb y x nx, ne_eqb y h ne) t in not_both (is_before h x (y ∷ ys)) yes e)
             | inr n ↦ n
           ]
 

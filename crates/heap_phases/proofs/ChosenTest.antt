@@ -5,7 +5,7 @@ use Rattle.std.specs.List.{IsDistinct, AllByRecursion}
 use Rattle.std.proofs.lemmas.Bool.{cases_Bool, eq-eqb, ne_eqb}
 use Rattle.std.proofs.lemmas.Bool.Decides.{eqb_tells, nat_tests}
 use Rattle.std.proofs.lemmas.List.Sums.{take_while-cons}
-use Rattle.object_view.proofs.SurvivorLaws.{filter-part, filter-member}
+use Rattle.object_model.proofs.Members.{filter-part, filter-member, or_cases, or_first, or_second, and_first, and_second, and_both}
 use Rattle.object_model.specs.declared.settings.Settings.{Settings}
 use Rattle.object_model.specs.Object.{Object}
 use Rattle.store_model.specs.Store.{Store}
@@ -14,9 +14,7 @@ use Rattle.store_model.specs.Roots.{registered_births}
 use Rattle.store_model.specs.Reach.{Tells, Leads, Reaches, refers, is_registered}
 use Rattle.store_model.specs.Marking.{is_white, is_dying, stands_before, IsChosen}
 use Rattle.store_model.specs.Sound.{IsSound, waiting_births}
-use Rattle.heap_parts.proofs.HeldLaws.{or-either, or-first, or-second}
 use Rattle.heap_parts.proofs.Times.{once_first}
-use Rattle.heap_phases.proofs.EndStore.{and-one, and-two, and-all}
 use Rattle.heap_phases.proofs.ChosenPasses.{candidates, unreached_later, is_before, AreOnce, IsFirst, passes_find, passes_all}
 use Rattle.heap_phases.proofs.TestsExist.{reaches, reaches_tells}
 
@@ -29,15 +27,15 @@ abbrev pub leads : List Object → ℕ → ℕ → Bool
 leads kept x y = (x == y) || reaches kept x y
 
 pub leads_self : (kept : List Object) (x : ℕ) → leads kept x x ≡ true
-leads_self kept x = or-first (x == x) (reaches kept x x) (eq-eqb x x refl)
+leads_self kept x = or_first (x == x) (reaches kept x x) (eq-eqb x x refl)
 
 pub leads_joins : (kept : List Object) (x y z : ℕ) → leads kept x y ≡ true → leads kept y z ≡ true → leads kept x z ≡ true
-leads_joins kept x y z a b = elim (or-either (x == y) (reaches kept x y) a) [
+leads_joins kept x y z a b = elim (or_cases (x == y) (reaches kept x y) a) [
   | inl e ↦ elim (eqb_tells x y) [
     | inl same ↦ subst (λ (k : ℕ). leads kept k z ≡ true) (sym same.1) b
     | inr other ↦ absurd (let no_e = other.0 in let no : ⊥ = cc in no)
   ]
-  | inr r ↦ elim (or-either (y == z) (reaches kept y z) b) [
+  | inr r ↦ elim (or_cases (y == z) (reaches kept y z) b) [
     | inl e ↦ elim (eqb_tells y z) [
       | inl same ↦ subst (λ (k : ℕ). leads kept x k ≡ true) same.1 a
       | inr other ↦ absurd (let no_e = other.0 in let no : ⊥ = cc in no)
@@ -45,12 +43,12 @@ leads_joins kept x y z a b = elim (or-either (x == y) (reaches kept x y) a) [
     | inr q ↦
         let one : Reaches kept x y = (reaches_tells kept x y).0 r in
         let two : Reaches kept y z = (reaches_tells kept y z).0 q in
-        or-second (x == z) (reaches kept x z) ((reaches_tells kept x z).1 (one.0, one.1 ++ two.1, leads-join (refers kept) x one.1 y two.1 z one.2 two.2))
+        or_second (x == z) (reaches kept x z) ((reaches_tells kept x z).1 (one.0, one.1 ++ two.1, leads-join (refers kept) x one.1 y two.1 z one.2 two.2))
   ]
 ]
 
 leads-other : (kept : List Object) (x y : ℕ) → x ≢ y → leads kept x y ≡ true → Reaches kept x y
-leads-other kept x y ne t = elim (or-either (x == y) (reaches kept x y) t) [
+leads-other kept x y ne t = elim (or_cases (x == y) (reaches kept x y) t) [
   | inl e ↦ elim (eqb_tells x y) [ inl same ↦ absurd (ne same.1) | inr other ↦ absurd (let no_e = other.0 in let no : ⊥ = cc in no) ]
   | inr r ↦ (reaches_tells kept x y).0 r
 ]
@@ -107,13 +105,13 @@ finds_chosen settings store sound x = (λ t. found t, λ c. passes_all (leads st
     is_once = once-passed (is_white store) (registered_births store) (once_first (registered_births store) (waiting_births store) sound.once)
 
     dying-in : (h : ℕ) → IsTrue (is_dying store h) → IsTrue (is_in h (dying_births store))
-    dying-in h d = filter-member (is_white store) (registered_births store) h (and-one (is_registered store h) (is_white store h) d) (and-two (is_registered store h) (is_white store h) d)
+    dying-in h d = filter-member (is_white store) (registered_births store) h (and_first (is_registered store h) (is_white store h) d) (and_second (is_registered store h) (is_white store h) d)
 
     in-dying : (h : ℕ) → IsTrue (is_in h (dying_births store)) → IsTrue (is_dying store h)
-    in-dying h t = let part = filter-part (is_white store) (registered_births store) h t in and-all (is_registered store h) (is_white store h) part.0 part.1
+    in-dying h t = let part = filter-part (is_white store) (registered_births store) h t in and_both (is_registered store h) (is_white store h) part.0 part.1
 
     white-of : (h : ℕ) → IsTrue (is_dying store h) → is_white store h ≡ true
-    white-of h d = and-two (is_registered store h) (is_white store h) d
+    white-of h d = and_second (is_registered store h) (is_white store h) d
 
     found : IsTrue (is_in x (found_births store)) → IsChosen store x
     found t =
@@ -121,7 +119,7 @@ finds_chosen settings store sound x = (λ t. found t, λ c. passes_all (leads st
         let d : IsTrue (is_dying store x) = in-dying x f.there in (
           d,
           λ h ne dying r.
-              let w = f.gives_way h (dying-in h dying) ne (or-second (h == x) (reaches store.kept h x) ((reaches_tells store.kept h x).1 r)) in
+              let w = f.gives_way h (dying-in h dying) ne (or_second (h == x) (reaches store.kept h x) ((reaches_tells store.kept h x).1 r)) in
               (leads-other store.kept x h (λ e. ne (sym e)) w.0, sym (before-passed (is_white store) h x (white-of h dying) (white-of x d) (registered_births store)) ∙ w.1),
         )
 
@@ -131,5 +129,5 @@ finds_chosen settings store sound x = (λ t. found t, λ c. passes_all (leads st
       gives_way = λ h t ne r.
           let dying : IsTrue (is_dying store h) = in-dying h t in
           let w = c.1 h ne dying (leads-other store.kept h x ne r) in
-          (or-second (x == h) (reaches store.kept x h) ((reaches_tells store.kept x h).1 w.0), before-passed (is_white store) h x (white-of h dying) (white-of x c.0) (registered_births store) ∙ w.1);
+          (or_second (x == h) (reaches store.kept x h) ((reaches_tells store.kept x h).1 w.0), before-passed (is_white store) h x (white-of h dying) (white-of x c.0) (registered_births store) ∙ w.1);
     }

@@ -10,9 +10,8 @@ use Rattle.object_header.specs.Words.{has_flag, with_flag}
 use Rattle.object_header.specs.declared.flags.Flag.{Flag}
 use Rattle.object_header.specs.declared.flags.Flag.TheVariants.{Track, Visited, HasShadow, Pinned, HasCards, CardsSet, Free, Shadow, Order1, Order2}
 use Rattle.object_header.proofs.WordLaws.{has_flag-with_flag_other, has_flag-with_flag_same, IsHeader-with_flag}
-use Rattle.object_view.proofs.WordLaws.{is_in-head, is_in-tail, is_in-cases, is_in-nil}
+use Rattle.object_model.proofs.Members.{is_in-head, is_in-tail, is_in-cases, is_in-nil, filter-part, filter-member}
 use Rattle.object_view.proofs.LayoutLaws.{info_at-same}
-use Rattle.object_view.proofs.SurvivorLaws.{filter-part, filter-member}
 use Rattle.text_model.specs.declared.line.Phase.TheVariants.{Sweeping}
 use Rattle.object_model.specs.Layout.{Layout}
 use Rattle.object_model.specs.Object.{Object, object_at}

@@ -11,7 +11,7 @@ use Rattle.std.proofs.lemmas.Map.Keys.{IsDistinct-IsPermutation}
 use Rattle.std.proofs.lemmas.Nat.{le-div}
 use Rattle.std.proofs.lemmas.Simd.{map-map}
 use Rattle.std.proofs.Math.Nat.{div-mul-le_self}
-use Rattle.object_view.proofs.WordLaws.{is_in-head, is_in-tail, is_in-cases, is_in-nil}
+use Rattle.object_model.proofs.Members.{is_in-head, is_in-tail, is_in-cases, is_in-nil, in-left, in-right, in-either, and_first, and_second, and_both, not_both}
 use Rattle.object_model.specs.declared.settings.Settings.{Settings}
 use Rattle.text_model.specs.declared.line.Phase.{Phase}
 use Rattle.text_model.specs.declared.line.Phase.TheVariants.{Marking}
@@ -27,10 +27,8 @@ use Rattle.store_model.specs.Reach.{Tells, objects_where}
 use Rattle.store_model.specs.Marking.{IsMarked, IsSaved, IsChosen, is_white, is_dying, is_condemned, after_marking}
 use Rattle.store_model.specs.Sound.{IsSound, IsPhaseSound, IsMarkingSound, AreCutOff, AreGone, AreLinksSound, births_in, waiting_births}
 use Rattle.heap_parts.specs.Collects.{AreAllPinned}
-use Rattle.heap_parts.proofs.Members.{in-left, in-right, in-either}
 use Rattle.heap_parts.proofs.Times.{times, times_append, times_parts, once_less}
-use Rattle.heap_phases.proofs.EndStore.{clash, and-one, and-two, and-all, stays_refers, root_stays, registered_stays, saved_stays, black_stays, doomed_gone}
-use Rattle.heap_phases.proofs.EndStore.{leads_start}
+use Rattle.heap_phases.proofs.EndStore.{stays_refers, root_stays, registered_stays, saved_stays, black_stays, doomed_gone, leads_start}
 use Rattle.heap_parts.proofs.Filters.{not-true}
 use Rattle.heap_parts.proofs.After.{kept_left, refs_left, was_kept, was_referent, was_target, no_target_left, birth_where, in_births_where}
 
@@ -151,12 +149,12 @@ module _ (settings : Settings) (store : Store) (sound : IsSound settings store) 
 
   pub settled_now : (x : ℕ) → IsTrue (is_in x store.settled) → gone x ≡ false → IsTrue (is_in x new.settled)
   settled_now x t stays = in_births_where store.kept (λ y. is_settled store.settled y && not (gone y)) x
-      (and-all (is_settled store.settled x) (not (gone x)) t (ap not stays)) (sound.settled x t)
+      (and_both (is_settled store.settled x) (not (gone x)) t (ap not stays)) (sound.settled x t)
 
   pub settled_before : (x : ℕ) → IsTrue (is_in x new.settled) → IsTrue (is_in x store.settled) × ((gone x ≡ false) × IsTrue (is_kept store.kept x))
   settled_before x t =
       let part = birth_where store.kept (λ y. is_settled store.settled y && not (gone y)) x t in
-      (and-one (is_settled store.settled x) (not (gone x)) part.0, (not-true (gone x) (and-two (is_settled store.settled x) (not (gone x)) part.0), part.1))
+      (and_first (is_settled store.settled x) (not (gone x)) part.0, (not-true (gone x) (and_second (is_settled store.settled x) (not (gone x)) part.0), part.1))
 
   pinned_stays : (x : ℕ) → IsTrue (is_in x (pinned_births store)) → gone x ≡ false
   pinned_stays x t = root_stays settings store sound pinned marked saved tells x (in-right x (filter_map (λ slot. slot) store.slots) _ (in-left x (pinned_births store) _ t))
@@ -176,7 +174,7 @@ module _ (settings : Settings) (store : Store) (sound : IsSound settings store) 
           | inl d ↦ old (in-left x waiting _ d)
           | inr d ↦ let part = entry_part chosen store.registered x d in
               let dying = chosen_dying x part.1 in
-              settled_now x (and-one (is_settled store.settled x) (not (is_in x store.visited)) (and-two _ (is_white store x) dying)) (chosen_stays x part.1)
+              settled_now x (and_first (is_settled store.settled x) (not (is_in x store.visited)) (and_second _ (is_white store x) dying)) (chosen_stays x part.1)
         ]
         | inr c ↦ old (in-right x waiting _ c)
       ]
@@ -236,7 +234,7 @@ module _ (settings : Settings) (store : Store) (sound : IsSound settings store) 
       few = sound.pins.few;
       counted = sound.pins.counted;
       unsettled = λ x t. elim (cases_Bool (is_in x new.settled)) [
-        | inl s ↦ absurd (clash (is_in x store.settled) (settled_before x s).0 (sound.pins.unsettled x t))
+        | inl s ↦ absurd (not_both (is_in x store.settled) (settled_before x s).0 (sound.pins.unsettled x t))
         | inr u ↦ u
       ];
       no_references = λ x t. refs_left white gone x store.kept (pinned_stays x t) ∙ sound.pins.no_references x t;

@@ -2,7 +2,7 @@
 use Rattle.std.proofs.Common.{◌≡◌, ℕ, ◌⊎◌, Bool, true, false, IsTrue, List, [], ◌∷◌, ◌++◌, Option, Some, None, refl, sym, subst, inl, inr}
 use Rattle.std.specs.Prelude.{IsFalse, not, ◌&&◌, is_some, filter_map}
 use Rattle.std.proofs.lemmas.Bool.{cases_Bool}
-use Rattle.object_view.proofs.WordLaws.{is_in-nil}
+use Rattle.object_model.proofs.Members.{is_in-nil, in-left, in-right, and_first, and_second, and_both, not_both}
 use Rattle.object_model.specs.declared.settings.Settings.{Settings}
 use Rattle.object_model.specs.Object.{Object, object_at}
 use Rattle.store_model.specs.Store.{Store, is_settled}
@@ -13,23 +13,6 @@ use Rattle.store_model.specs.Reach.{Tells, Leads, LeadsTo, refers, is_registered
 use Rattle.store_model.specs.Marking.{IsMarked, IsSaved, is_white, is_dying, is_condemned}
 use Rattle.store_model.specs.Sound.{IsSound, AreNoneOf}
 use Rattle.heap_parts.specs.Collects.{AreAllPinned}
-use Rattle.heap_parts.proofs.Members.{in-left, in-right}
-
-pub and-one : (a b : Bool) → IsTrue (a && b) → IsTrue a
-and-one true b t = refl
-and-one false b t = t
-
-pub and-two : (a b : Bool) → IsTrue (a && b) → IsTrue b
-and-two true b t = t
-and-two false b t = absurd (let no : ⊥ = cc in no)
-
-pub and-all : (a b : Bool) → IsTrue a → IsTrue b → IsTrue (a && b)
-and-all true b s t = t
-and-all false b s t = s
-
-pub clash : (b : Bool) → IsTrue b → IsFalse b → ⊥
-clash true t f = let no : ⊥ = cc in no
-clash false t f = let no : ⊥ = cc in no
 
 -- one path after another
 leads-on : (step : ℕ → ℕ → Bool) (x : ℕ) (path : List ℕ) (y z : ℕ) → Leads step x path y → IsTrue (step y z) → Leads step x (path ++ z ∷ []) z
@@ -105,7 +88,7 @@ module _ (settings : Settings) (store : Store) (sound : IsSound settings store) 
   pub stays_refers : (x y : ℕ) → gone x ≡ false → IsTrue (is_in y (referents_in (object_at store.kept x))) → gone y ≡ false
   stays_refers x y stays t =
       let there : IsTrue (is_kept store.kept y) = sound.fields.references x y t in
-      let step : IsTrue (refers store.kept x y) = and-all (is_in y (referents_in (object_at store.kept x))) (is_kept store.kept y) t there in
+      let step : IsTrue (refers store.kept x y) = and_both (is_in y (referents_in (object_at store.kept x))) (is_kept store.kept y) t there in
       elim (cases_Bool (is_settled store.settled x)) [
         | inl settled ↦ elim (cases_Bool (is_in x store.visited)) [
           | inl visited ↦ elim (cases_Bool (is_settled store.settled y)) [
@@ -123,7 +106,7 @@ module _ (settings : Settings) (store : Store) (sound : IsSound settings store) 
   pub root_stays : (x : ℕ) → IsTrue (is_in x (roots_of store)) → gone x ≡ false
   root_stays x t =
       let reached : IsReached store x = leads_start (λ z. is_in z (roots_of store) && is_kept store.kept z) (refers store.kept) x
-      (and-all (is_in x (roots_of store)) (is_kept store.kept x) t (sound.roots x t)) in
+      (and_both (is_in x (roots_of store)) (is_kept store.kept x) t (sound.roots x t)) in
       elim (cases_Bool (is_settled store.settled x)) [
         | inl s ↦ visited_stays x (marked.reached x reached s)
         | inr u ↦ unsettled_stays x u
@@ -131,17 +114,17 @@ module _ (settings : Settings) (store : Store) (sound : IsSound settings store) 
 
   pub registered_stays : (x : ℕ) → IsTrue (is_in x (registered_births store)) → gone x ≡ false
   registered_stays x t = elim (cases_Bool (is_white store x)) [
-    | inl white ↦ saved_stays x (leads_start (is_dying store) (refers store.kept) x (and-all (is_registered store x) (is_white store x) t white))
+    | inl white ↦ saved_stays x (leads_start (is_dying store) (refers store.kept) x (and_both (is_registered store x) (is_white store x) t white))
     | inr black ↦ black_stays x black
   ]
 
   -- what is saved was not doomed
   saved-not-doomed : (x : ℕ) → IsSaved store x → IsFalse (is_in x store.doomed)
   saved-not-doomed x l = (leads_least (is_dying store) (refers store.kept) (λ y. IsTrue (is_kept store.kept y) × IsFalse (is_in y store.doomed))
-      (λ h d. let r : IsTrue (is_registered store h) = and-one (is_registered store h) (is_white store h) d in (sound.registered h r, sound.registered_retained h r))
+      (λ h d. let r : IsTrue (is_registered store h) = and_first (is_registered store h) (is_white store h) d in (sound.registered h r, sound.registered_retained h r))
       (λ h y p r. (
-        and-two (is_in y (referents_in (object_at store.kept h))) (is_kept store.kept y) r,
-        sound.doomed_cut_off h p.0 p.1 y (and-one (is_in y (referents_in (object_at store.kept h))) (is_kept store.kept y) r),
+        and_second (is_in y (referents_in (object_at store.kept h))) (is_kept store.kept y) r,
+        sound.doomed_cut_off h p.0 p.1 y (and_first (is_in y (referents_in (object_at store.kept h))) (is_kept store.kept y) r),
       )) x l).1
 
   pinned-root : (x : ℕ) → IsTrue (is_in x (pinned_births store)) → IsFalse (is_in x store.doomed)
@@ -153,14 +136,14 @@ module _ (settings : Settings) (store : Store) (sound : IsSound settings store) 
   doomed_gone x apart unreached kept doomed =
       let settled : is_settled store.settled x ≡ true = elim (cases_Bool (is_settled store.settled x)) [
         | inl s ↦ s
-        | inr u ↦ absurd (clash (is_in x store.doomed) doomed (pinned-root x (pinned x kept u)))
+        | inr u ↦ absurd (not_both (is_in x store.doomed) doomed (pinned-root x (pinned x kept u)))
       ] in
       let unvisited : is_in x store.visited ≡ false = elim (cases_Bool (is_in x store.visited)) [
-        | inl v ↦ absurd (clash (is_in x store.unreached) (unreached x doomed) (apart x v))
+        | inl v ↦ absurd (not_both (is_in x store.unreached) (unreached x doomed) (apart x v))
         | inr e ↦ e
       ] in
       let unsaved : saved x ≡ false = elim (cases_Bool (saved x)) [
-        | inl t ↦ absurd (clash (is_in x store.doomed) doomed (saved-not-doomed x ((tells x).0 t)))
+        | inl t ↦ absurd (not_both (is_in x store.doomed) doomed (saved-not-doomed x ((tells x).0 t)))
         | inr e ↦ e
       ] in
       rw (white-yes (is_settled store.settled x) (is_in x store.visited) settled unvisited, unsaved) refl

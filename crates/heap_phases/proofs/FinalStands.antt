@@ -6,7 +6,7 @@ use Rattle.std.proofs.lemmas.List.{map-append}
 use Rattle.std.proofs.lemmas.Bool.Decides.{eqb_tells}
 use Rattle.type_table.specs.Table.{Table, KeysRise, value_at, with_value}
 use Rattle.type_table.proofs.TableLaws.{KeysRise-with_value}
-use Rattle.object_view.proofs.WordLaws.{is_in-head, is_in-tail, is_in-cases, is_in-nil}
+use Rattle.object_model.proofs.Members.{is_in-head, is_in-tail, is_in-cases, is_in-nil, in-left, in-right, in-either}
 use Rattle.object_model.specs.declared.settings.Settings.{Settings}
 use Rattle.text_model.specs.declared.line.Phase.{Phase}
 use Rattle.text_model.specs.declared.line.Phase.TheVariants.{Scanning, Finalizing}
@@ -21,7 +21,6 @@ use Rattle.heap_parts.specs.Order.{IsGrayOf}
 use Rattle.heap_parts.specs.Headers.{is_marked}
 use Rattle.heap_parts.specs.Lists.{named_entries, named_queues}
 use Rattle.heap_parts.specs.StandsFor.{PartsStandFor}
-use Rattle.heap_parts.proofs.Members.{in-left, in-right, in-either}
 use Rattle.heap_parts.proofs.Times.{times_queued, once_less}
 
 -- the parts afterwards

@@ -5,7 +5,8 @@ use Rattle.object_model.specs.Sets.{is_in}
 use Rattle.object_model.specs.Object.{Object, object_at}
 use Rattle.store_model.specs.Roots.{referents_in}
 use Rattle.store_model.specs.MarkingOrder.{settled_of, Visits, NoVisit, Passed, Visit}
-use Rattle.heap_phases.proofs.MarkSets.{⊎_elim, or_first, or_second, same, in-either, from-filter}
+use Rattle.heap_phases.proofs.MarkSets.{⊎_elim, same, from-filter}
+use Rattle.object_model.proofs.Members.{or_first, or_second, in-either}
 
 module _ (kept : List Object) (settled : List ℕ) where
   -- one chain of visits after another

@@ -10,7 +10,8 @@ use Rattle.object_model.specs.Fields.{refs_of}
 use Rattle.store_model.specs.Sound.{AreKept, AreNoneOf, AreCutOff}
 use Rattle.store_model.specs.Marking.{IsMarked}
 use Rattle.store_model.specs.MarkingOrder.{IsItem, YoungHeld, HeldSettled, IsInOrder, VisitsQueued, RootsQueued, settled_of, Visits}
-use Rattle.heap_phases.proofs.MarkSets.{⊎_elim, false≢true, and_first, decide, referent-item, from-filter}
+use Rattle.heap_phases.proofs.MarkSets.{⊎_elim, false≢true, decide, referent-item, from-filter}
+use Rattle.object_model.proofs.Members.{and_first}
 use Rattle.heap_phases.proofs.EndStore.{leads_least as LeadsTo-least}
 use Rattle.heap_phases.proofs.MarkVisit.{StepOrder, order-visits, roots-visits, order-roots}
 

@@ -2,16 +2,13 @@
 use Rattle.std.proofs.Common.{◌≡◌, ℕ, zero, suc, ◌⊎◌, Bool, true, false, IsTrue, List, [], ◌∷◌, Option, Some, None, refl, sym, ap, subst, inl, inr, arith}
 use Rattle.std.specs.Prelude.{IsFalse, ◌==◌, filter, filter_map, slice_get}
 use Rattle.std.proofs.lemmas.Bool.Decides.{nat_tests}
-use Rattle.object_view.proofs.WordLaws.{is_in-head, is_in-tail, is_in-cases, is_in-nil}
-use Rattle.object_view.proofs.SurvivorLaws.{filter-part, filter-member}
+use Rattle.object_model.proofs.Members.{is_in-head, is_in-tail, is_in-cases, is_in-nil, filter-part, filter-member}
 use Rattle.object_model.specs.Object.{Object, object_at}
 use Rattle.object_model.specs.Sets.{is_in}
 use Rattle.object_model.specs.Fields.{refs_of}
 use Rattle.store_model.specs.Roots.{referents_in}
 use Rattle.store_model.specs.MarkingOrder.{IsItem}
-pub use Rattle.heap_parts.proofs.Members.{in-left, in-right, in-either}
-pub use Rattle.heap_phases.proofs.EndStore.{and-one as and_first, and-two as and_second, and-all as and_both, clash as not_both}
-pub use Rattle.heap_parts.proofs.HeldLaws.{or-either as or_cases, or-first as or_first, or-second as or_second}
+use Rattle.object_model.proofs.Members.{in-left, in-right, in-either, or_cases, or_first, or_second, and_first, and_second, and_both, not_both}
 
 pub false≢true : false ≡ true → ⊥
 false≢true e = let no : ⊥ = cc in no

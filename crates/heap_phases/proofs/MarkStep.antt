@@ -14,7 +14,7 @@ use Rattle.store_model.specs.Roots.{pinned_births, is_kept, roots_of}
 use Rattle.store_model.specs.Sound.{AreKept, AreNoneOf, AreCutOff}
 use Rattle.store_model.specs.Marking.{IsMarked, MarkingStep, GoesOn, EndOfMarking, visited_words, with_visited}
 use Rattle.store_model.specs.MarkingOrder.{settled_of, Visits, IsItem, is_known}
-use Rattle.heap_phases.proofs.MarkSets.{and_first, and_second, and_both, in-left, in-right}
+use Rattle.object_model.proofs.Members.{and_first, and_second, and_both, in-left, in-right}
 use Rattle.heap_phases.proofs.MarkVisit.{StepOrder, order-visits, order-roots}
 use Rattle.heap_phases.proofs.MarkVisitList.{visited-all, unvisited-all, distinct-visits, allowed-visits}
 use Rattle.heap_parts.proofs.Filters.{distinct_append}

@@ -6,7 +6,8 @@ use Rattle.object_model.specs.Object.{Object, object_at}
 use Rattle.store_model.specs.Roots.{referents_in}
 use Rattle.store_model.specs.Sound.{AreKept, AreNoneOf, AreCutOff}
 use Rattle.store_model.specs.MarkingOrder.{IsItem, IsInOrder, is_known, VisitsQueued, RootsQueued, settled_of, Visits, NoVisit, Passed, Visit}
-use Rattle.heap_phases.proofs.MarkSets.{⊎_elim, or_cases, or_first, or_second, decide, not_both, equal, in-left, in-right, in-either, only, in-one, in-filter, from-filter, item-referent}
+use Rattle.heap_phases.proofs.MarkSets.{⊎_elim, decide, equal, only, in-one, in-filter, from-filter, item-referent}
+use Rattle.object_model.proofs.Members.{or_cases, or_first, or_second, not_both, in-left, in-right, in-either}
 
 -- what holds all through a marking step, but for what never changes in it
 pub record StepOrder (kept : List Object) (settled visited gray : List ℕ) (remembered : ℕ → ℕ → Bool) (unreached : List ℕ) : Type 0 where

@@ -1,15 +1,14 @@
 -- What visits visit may be visited.
-use Rattle.std.specs.List.{list_all}
-use Rattle.std.specs.Prelude.{◌≡◌, ℕ, Bool, true, false, not, ◌&&◌, ◌==◌, IsTrue, IsFalse, List, [], ◌∷◌, ◌++◌, refl}
+use Rattle.std.specs.List.{list_all, IsDistinct}
+use Rattle.std.specs.Prelude.{◌≡◌, ℕ, Bool, true, false, not, ◌&&◌, ◌==◌, IsTrue, IsFalse, List, [], ◌∷◌, ◌++◌, refl, nat_eq}
 use Rattle.std.proofs.Common.{sym, ◌∙◌, subst, append_assoc, append-nil}
 use Rattle.object_model.specs.Sets.{is_in}
 use Rattle.object_model.specs.Object.{Object, object_at}
 use Rattle.store_model.specs.Roots.{referents_in}
 use Rattle.store_model.specs.Sound.{AreKept, AreCutOff}
-use Rattle.std.specs.Prelude.{nat_eq}
-use Rattle.std.specs.List.{IsDistinct}
 use Rattle.store_model.specs.MarkingOrder.{settled_of, Visits, NoVisit, Passed, Visit}
-use Rattle.heap_phases.proofs.MarkSets.{⊎_elim, false≢true, and_both, or_cases, not_both, is_false, equal, in-left, in-right, in-one}
+use Rattle.heap_phases.proofs.MarkSets.{⊎_elim, false≢true, is_false, equal, in-one}
+use Rattle.object_model.proofs.Members.{and_both, or_cases, not_both, in-left, in-right}
 use Rattle.heap_phases.proofs.MarkVisit.{StepOrder, order-passed, order-visited}
 use Rattle.heap_parts.proofs.Filters.{all_differ}
 

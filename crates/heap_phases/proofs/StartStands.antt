@@ -2,8 +2,7 @@
 use Rattle.std.proofs.Common.{◌≡◌, ℕ, ◌<◌, Bool, true, false, IsTrue, List, [], ◌∷◌, ◌++◌, map, refl, ap, ◌∙◌, subst, inl, inr}
 use Rattle.std.specs.Prelude.{IsFalse, not, ◌&&◌, filter, filter_map}
 use Rattle.std.proofs.lemmas.Bool.{cases_Bool}
-use Rattle.object_view.proofs.WordLaws.{is_in-nil}
-use Rattle.object_view.proofs.SurvivorLaws.{filter-part}
+use Rattle.object_model.proofs.Members.{is_in-nil, filter-part, in-left, in-right, and_first, and_second, and_both, not_both}
 use Rattle.object_model.specs.declared.settings.Settings.{Settings}
 use Rattle.text_model.specs.declared.line.Phase.{Phase}
 use Rattle.text_model.specs.declared.line.Phase.TheVariants.{Scanning, Marking}
@@ -20,8 +19,7 @@ use Rattle.heap_parts.specs.OldSpace.{AreUnitsSwept}
 use Rattle.heap_parts.specs.Headers.{is_marked}
 use Rattle.heap_parts.specs.StandsFor.{PartsStandFor}
 use Rattle.heap_parts.specs.Collects.{AreAllPinned}
-use Rattle.heap_parts.proofs.Members.{in-left, in-right}
-use Rattle.heap_phases.proofs.EndStore.{clash, and-one, and-two, and-all, leads_start, leads_step}
+use Rattle.heap_phases.proofs.EndStore.{leads_start, leads_step}
 use Rattle.heap_parts.proofs.After.{birth_where, in_births_where}
 use Rattle.heap_parts.proofs.Filters.{not-true}
 
@@ -44,21 +42,21 @@ module _ (settings : Settings) (store : Store) (sound : IsSound settings store) 
 
   root-reached : (x : ℕ) → IsTrue (is_in x (roots_of store)) → reached x ≡ true
   root-reached x t = (tells_reached x).1 (leads_start (λ z. is_in z (roots_of store) && is_kept store.kept z) (refers store.kept) x
-      (and-all (is_in x (roots_of store)) (is_kept store.kept x) t (sound.roots x t)))
+      (and_both (is_in x (roots_of store)) (is_kept store.kept x) t (sound.roots x t)))
 
   start-retained : (x : ℕ) → IsTrue (is_in x (roots_of store ++ registered_births store)) → IsTrue (is_kept store.kept x) → retained x ≡ true
   start-retained x t k = (tells_retained x).1 (leads_start (λ z. is_in z (roots_of store ++ registered_births store) && is_kept store.kept z) (refers store.kept) x
-      (and-all (is_in x (roots_of store ++ registered_births store)) (is_kept store.kept x) t k))
+      (and_both (is_in x (roots_of store ++ registered_births store)) (is_kept store.kept x) t k))
 
   step-of : (x y : ℕ) → IsTrue (is_in y (referents_in (object_at store.kept x))) → IsTrue (refers store.kept x y)
-  step-of x y t = and-all (is_in y (referents_in (object_at store.kept x))) (is_kept store.kept y) t (sound.fields.references x y t)
+  step-of x y t = and_both (is_in y (referents_in (object_at store.kept x))) (is_kept store.kept y) t (sound.fields.references x y t)
 
   -- what is reached is not unreached, and what is retained is not doomed
   pub reached_out : (x : ℕ) → reached x ≡ true → IsFalse (is_in x new.unreached)
   reached_out x r = elim (cases_Bool (is_in x new.unreached)) [
     | inl t ↦ absurd (
         let part = birth_where store.kept (λ y. is_settled store.settled y && not (reached y)) x t in
-        let out : reached x ≡ false = not-true (reached x) (and-two (is_settled store.settled x) (not (reached x)) part.0) in let no : ⊥ = cc in no)
+        let out : reached x ≡ false = not-true (reached x) (and_second (is_settled store.settled x) (not (reached x)) part.0) in let no : ⊥ = cc in no)
     | inr n ↦ n
   ]
 
@@ -78,8 +76,8 @@ module _ (settings : Settings) (store : Store) (sound : IsSound settings store) 
   reached-in x k out = elim (cases_Bool (reached x)) [
     | inl r ↦ r
     | inr n ↦ elim (cases_Bool (is_settled store.settled x)) [
-      | inl settled ↦ absurd (clash (is_in x new.unreached) (in_births_where store.kept (λ y. is_settled store.settled y && not (reached y)) x
-          (and-all (is_settled store.settled x) (not (reached x)) settled (ap not n)) k) out)
+      | inl settled ↦ absurd (not_both (is_in x new.unreached) (in_births_where store.kept (λ y. is_settled store.settled y && not (reached y)) x
+          (and_both (is_settled store.settled x) (not (reached x)) settled (ap not n)) k) out)
       | inr unsettled ↦ absurd (let r : reached x ≡ true = root-reached x (pinned-root x (pinned x k unsettled)) in let no : ⊥ = cc in no)
     ]
   ]
@@ -87,7 +85,7 @@ module _ (settings : Settings) (store : Store) (sound : IsSound settings store) 
   retained-in : (x : ℕ) → IsTrue (is_kept store.kept x) → IsFalse (is_in x new.doomed) → retained x ≡ true
   retained-in x k out = elim (cases_Bool (retained x)) [
     | inl r ↦ r
-    | inr n ↦ absurd (clash (is_in x new.doomed) (in_births_where store.kept (λ y. not (retained y)) x (ap not n) k) out)
+    | inr n ↦ absurd (not_both (is_in x new.doomed) (in_births_where store.kept (λ y. not (retained y)) x (ap not n) k) out)
   ]
 
   born : (x : ℕ) (test : ℕ → Bool) → IsTrue (is_in x (births_where store.kept test)) → x < store.next
@@ -113,9 +111,9 @@ module _ (settings : Settings) (store : Store) (sound : IsSound settings store) 
             let r : reached x ≡ true = reached-in x part.1 out in
             let path : IsReached store x = (tells_reached x).0 r in
             let start : IsTrue (is_in path.0 (roots_of store ++ registered_births store) && is_kept store.kept path.0) =
-            and-all (is_in path.0 (roots_of store ++ registered_births store)) (is_kept store.kept path.0)
-            (in-left path.0 (roots_of store) (registered_births store) (and-one (is_in path.0 (roots_of store)) (is_kept store.kept path.0) path.1))
-            (and-two (is_in path.0 (roots_of store)) (is_kept store.kept path.0) path.1) in
+            and_both (is_in path.0 (roots_of store ++ registered_births store)) (is_kept store.kept path.0)
+            (in-left path.0 (roots_of store) (registered_births store) (and_first (is_in path.0 (roots_of store)) (is_kept store.kept path.0) path.1))
+            (and_second (is_in path.0 (roots_of store)) (is_kept store.kept path.0) path.1) in
             let kept_back : retained x ≡ true = (tells_retained x).1 (path.0, start, path.2, path.3) in
             let no : ⊥ = cc in no)
       ]

@@ -16,20 +16,19 @@ use Rattle.object_header.specs.Words.{has_flag, without_flag}
 use Rattle.object_header.specs.declared.flags.Flag.{Flag}
 use Rattle.object_header.specs.declared.flags.Flag.TheVariants.{Track, Visited, HasShadow, Pinned, HasCards, CardsSet, Free, Shadow, Order1, Order2}
 use Rattle.object_header.proofs.WordLaws.{has_flag-without_flag_other, has_flag-without_flag_same, IsHeader-without_flag}
-use Rattle.object_view.proofs.WordLaws.{is_in-head, is_in-tail, is_in-cases, is_in-nil, map-same}
+use Rattle.object_model.proofs.Members.{is_in-head, is_in-tail, is_in-cases, is_in-nil, map-same, filter-part, filter-member, in-left, in-right, in-either, and_both, is_in-named}
 use Rattle.object_view.proofs.LayoutLaws.{laid_out, info_at-same, birth-from}
 use Rattle.type_table.proofs.TableLaws.{KeysRise-entries_where}
 use Rattle.size_pages.specs.LiveBlocks.{in_page}
 use Rattle.heap_phases.proofs.UnitOffers.{PageUnit, unit_kind, page-test, large-test}
 use Rattle.heap_phases.proofs.UnitWords.{page_few, where_passes, sum_append, sum_placed}
-use Rattle.heap_parts.specs.OldSpace.{reserved_blocks}
+use Rattle.heap_parts.specs.OldSpace.{reserved_blocks, blocks_of, husk_at, unit_at, is_waiting, AreUnitsSwept}
 use Rattle.heap_parts.proofs.Members.{each-left, each-right}
 use Rattle.heap_parts.proofs.BlockLaws.{each-member}
 use Rattle.std.proofs.lemmas.List.Sums.{sum_by-cons}
 use Rattle.std.proofs.lemmas.List.{length-map}
 use Rattle.object_model.specs.Holds.{HoldsObjects}
 use Rattle.object_model.specs.ObjectWords.{object_from, words_at}
-use Rattle.object_view.proofs.SurvivorLaws.{filter-part, filter-member}
 use Rattle.old_space.specs.Sweeping.{SweepsLowest, in_unit, dead_blocks}
 use Rattle.old_space.specs.declared.Old.{Old}
 use Rattle.object_model.specs.declared.settings.Settings.{Settings}
@@ -44,16 +43,12 @@ use Rattle.store_model.specs.Sweeping.{husks_where, is_freed}
 use Rattle.store_model.specs.Sound.{IsSound, IsPhaseSound, births_in}
 use Rattle.heap_parts.specs.Parts.{HeapParts, word_in, home_in}
 use Rattle.heap_parts.specs.Places.{young_places, old_places, block_at}
-use Rattle.heap_parts.specs.OldSpace.{blocks_of, husk_at, unit_at, is_waiting, AreUnitsSwept}
 use Rattle.heap_parts.specs.Headers.{IsSettledHeader, is_marked, keeps_cards}
 use Rattle.heap_parts.specs.StandsFor.{PartsStandFor, HoldsWords}
 use Rattle.heap_phases.specs.Swept.{without_husks, swept_parts, freed_words}
-use Rattle.heap_parts.proofs.Births.{is_in-named}
-use Rattle.heap_parts.proofs.Members.{in-left, in-right, in-either}
 use Rattle.heap_parts.proofs.PlaceLaws.{young-is_in, old-is_in, named-by as named_by}
 use Rattle.heap_parts.proofs.SameLayouts.{SameLayouts}
 use Rattle.heap_parts.proofs.KeepWords.{firsts-stay}
-use Rattle.heap_phases.proofs.EndStore.{and-all}
 use Rattle.heap_phases.proofs.EndSound.{entry_part}
 use Rattle.heap_phases.proofs.EndStands.{sum_map, sum_split}
 use Rattle.heap_parts.proofs.Filters.{filter_at, filter_none, not-true}
@@ -338,7 +333,7 @@ module _ (heap : HeapParts) (store : Store) (s : PartsStandFor heap store) (swee
       ap (is_in (s.name p)) listed ∙ is_in-named s.name p s.husks t
 
   freed-husk : (p : ℕ) → IsTrue (is_in p s.husks) → (unit_at page_words p == o.unit) ≡ true → is_freed store (λ y. is_in y births) (s.name p) ≡ true
-  freed-husk p t e = and-all (is_in (s.name p) births) _ (freed-is p t ∙ e) (husk-of p t)
+  freed-husk p t e = and_both (is_in (s.name p) births) _ (freed-is p t ∙ e) (husk-of p t)
 
   -- the words of husks, those that stay and those that are freed
   husk-sum : husk_words store.husks ≡ husk_words (without_husks store births).husks + freed_words store.husks births

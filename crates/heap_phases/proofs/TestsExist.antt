@@ -3,7 +3,7 @@ use Rattle.std.proofs.Common.{ℕ, Bool, IsTrue, List, [], ◌∷◌, ◌++◌, 
 use Rattle.std.specs.Prelude.{◌==◌, ◌&&◌}
 use Rattle.std.proofs.lemmas.Bool.{eq-eqb}
 use Rattle.std.proofs.lemmas.Bool.Decides.{eqb_tells}
-use Rattle.object_view.proofs.WordLaws.{is_in-head, is_in-tail}
+use Rattle.object_model.proofs.Members.{is_in-head, is_in-tail, and_first, and_second, and_both}
 use Rattle.object_model.specs.declared.settings.Settings.{Settings}
 use Rattle.object_model.specs.Object.{Object, object_at}
 use Rattle.store_model.specs.Store.{Store}
@@ -13,7 +13,6 @@ use Rattle.store_model.specs.Reach.{Leads, Reaches, refers, is_registered}
 use Rattle.store_model.specs.Marking.{is_dying, is_white}
 use Rattle.store_model.specs.Sound.{IsSound}
 use Rattle.heap_parts.proofs.LedTests.{LedTest, led_test}
-use Rattle.heap_phases.proofs.EndStore.{and-one, and-two, and-all}
 
 pub kept_birth : (kept : List Object) (x : ℕ) → IsTrue (is_kept kept x) → IsTrue (is_in x (map (λ o. o.birth) kept))
 kept_birth [] x t = absurd (let no : ⊥ = cc in no)
@@ -25,21 +24,21 @@ kept_birth (o ∷ kept) x t = elim (eqb_tells x o.birth) [
 -- what starts that are kept lead to by references
 pub kept_test : (kept : List Object) (start : ℕ → Bool) → ((x : ℕ) → IsTrue (start x) → IsTrue (is_kept kept x)) → LedTest start (refers kept)
 kept_test kept start there = led_test start (refers kept) (map (λ o. o.birth) kept) (λ x t. kept_birth kept x (there x t))
-    (λ x y t. kept_birth kept y (and-two (is_in y (referents_in (object_at kept x))) (is_kept kept y) t))
+    (λ x y t. kept_birth kept y (and_second (is_in y (referents_in (object_at kept x))) (is_kept kept y) t))
 
 pub reached_test : (store : Store) → LedTest (λ x. is_in x (roots_of store) && is_kept store.kept x) (refers store.kept)
-reached_test store = kept_test store.kept (λ x. is_in x (roots_of store) && is_kept store.kept x) (λ x t. and-two (is_in x (roots_of store)) (is_kept store.kept x) t)
+reached_test store = kept_test store.kept (λ x. is_in x (roots_of store) && is_kept store.kept x) (λ x t. and_second (is_in x (roots_of store)) (is_kept store.kept x) t)
 
 pub retained_test : (store : Store) → LedTest (λ x. is_in x (roots_of store ++ registered_births store) && is_kept store.kept x) (refers store.kept)
 retained_test store = kept_test store.kept (λ x. is_in x (roots_of store ++ registered_births store) && is_kept store.kept x)
-    (λ x t. and-two (is_in x (roots_of store ++ registered_births store)) (is_kept store.kept x) t)
+    (λ x t. and_second (is_in x (roots_of store ++ registered_births store)) (is_kept store.kept x) t)
 
 pub saved_test : (settings : Settings) (store : Store) → IsSound settings store → LedTest (is_dying store) (refers store.kept)
-saved_test settings store sound = kept_test store.kept (is_dying store) (λ x t. sound.registered x (and-one (is_registered store x) (is_white store x) t))
+saved_test settings store sound = kept_test store.kept (is_dying store) (λ x t. sound.registered x (and_first (is_registered store x) (is_white store x) t))
 
 -- which births reach which, where the first is kept
 pub reach_test : (kept : List Object) (x : ℕ) → LedTest (λ z. (z == x) && is_kept kept z) (refers kept)
-reach_test kept x = kept_test kept (λ z. (z == x) && is_kept kept z) (λ z t. and-two (z == x) (is_kept kept z) t)
+reach_test kept x = kept_test kept (λ z. (z == x) && is_kept kept z) (λ z t. and_second (z == x) (is_kept kept z) t)
 
 abbrev pub reaches : List Object → ℕ → ℕ → Bool
 reaches kept x = (reach_test kept x).test
@@ -47,8 +46,8 @@ reaches kept x = (reach_test kept x).test
 pub reaches_tells : (kept : List Object) (x y : ℕ) → (IsTrue (reaches kept x y) → Reaches kept x y) × (Reaches kept x y → IsTrue (reaches kept x y))
 reaches_tells kept x y = (
   λ t. (let l = ((reach_test kept x).tells y).0 t in
-      from l.0 l.2 (and-one (l.0 == x) (is_kept kept l.0) l.1) (and-two (l.0 == x) (is_kept kept l.0) l.1) l.3),
-  λ r. ((reach_test kept x).tells y).1 (x, and-all (x == x) (is_kept kept x) (eq-eqb x x refl) r.0, r.1, r.2),
+      from l.0 l.2 (and_first (l.0 == x) (is_kept kept l.0) l.1) (and_second (l.0 == x) (is_kept kept l.0) l.1) l.3),
+  λ r. ((reach_test kept x).tells y).1 (x, and_both (x == x) (is_kept kept x) (eq-eqb x x refl) r.0, r.1, r.2),
 )
   where
     from : (z : ℕ) (path : List ℕ) → IsTrue (z == x) → IsTrue (is_kept kept z) → Leads (refers kept) z path y → Reaches kept x y

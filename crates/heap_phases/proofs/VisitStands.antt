@@ -10,7 +10,8 @@ use Rattle.object_header.specs.Words.{has_flag, with_flag}
 use Rattle.object_header.specs.declared.flags.Flag.{Flag}
 use Rattle.object_header.specs.declared.flags.Flag.TheVariants.{Track, Visited, HasCards, CardsSet}
 use Rattle.object_header.proofs.WordLaws.{has_flag-with_flag_other, has_flag-with_flag_same, IsHeader-with_flag, type_of-with_flag}
-use Rattle.object_view.proofs.WordLaws.{updated-here, updated-other, is_in-last, is_in-append, is_in-before}
+use Rattle.object_view.proofs.WordLaws.{updated-here, updated-other}
+use Rattle.object_model.proofs.Members.{is_in-last, is_in-append, is_in-before}
 use Rattle.object_view.proofs.LayoutLaws.{laid_out, info_at-same}
 use Rattle.object_view.proofs.SpaceLaws.{word_at-written, lies-at}
 use Rattle.object_view.proofs.FrameLaws.{flag_holds}

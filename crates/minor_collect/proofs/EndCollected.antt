@@ -7,10 +7,9 @@ use Rattle.object_model.specs.Sets.{is_in}
 use Rattle.store_model.specs.Roots.{is_kept, pinned_births}
 use Rattle.store_model.specs.MinorCollection.{settles, vanishes, after_minor}
 use Rattle.heap_parts.specs.Collects.{AreAllPinned}
-use Rattle.heap_parts.proofs.ReachLaws.{and_first, and_second}
+use Rattle.object_model.proofs.Members.{and_first, and_second, not-in}
 use Rattle.minor_collect.proofs.StoreAfter.{is_kept_left}
 use Rattle.minor_collect.proofs.Survives.{where_in}
-use Rattle.minor_collect.proofs.SameMembers.{not-in}
 
 settles-or : (kept settled survives pinned : Bool) → IsTrue kept → IsTrue (not ((kept && not settled) && not survives)) → pinned ≡ false → IsTrue (settled || (not settled && (survives && not pinned)))
 settles-or true true survives pinned k t e = refl

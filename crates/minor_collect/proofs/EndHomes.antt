@@ -7,7 +7,7 @@ use Rattle.object_model.specs.Sets.{is_in}
 use Rattle.heap_parts.specs.Places.{young_places, old_places}
 use Rattle.heap_parts.specs.StandsFor.{HoldsHomes}
 use Rattle.heap_parts.proofs.PlaceLaws.{young-is_in, is_in-young}
-use Rattle.object_view.proofs.SurvivorLaws.{filter-part, filter-member}
+use Rattle.object_model.proofs.Members.{filter-part, filter-member}
 use Rattle.minor_collect.specs.Ending.{remaining}
 
 -- what is found among some entries was among all, and its key passes

@@ -5,7 +5,7 @@ use Rattle.std.specs.List.{IsDistinct, AllByRecursion, cons_option}
 use Rattle.std.proofs.lemmas.Bool.{cases_Bool}
 use Rattle.type_table.specs.Table.{Table}
 use Rattle.type_table.proofs.TableLaws.{KeysRise-entries_where}
-use Rattle.object_view.proofs.WordLaws.{is_in-head, is_in-tail, is_in-cases, is_in-nil}
+use Rattle.object_model.proofs.Members.{is_in-head, is_in-tail, is_in-cases, is_in-nil, and_both, and_first, and_second, in-either, in-left, in-right, false-in}
 use Rattle.text_model.specs.declared.line.Fate.{Fate}
 use Rattle.text_model.specs.declared.line.Fate.TheVariants as fate
 use Rattle.text_model.specs.declared.line.Phase.{Phase}
@@ -20,9 +20,6 @@ use Rattle.store_model.specs.Roots.{is_kept, pinned_births, roots_of, referents_
 use Rattle.store_model.specs.Reach.{Tells}
 use Rattle.store_model.specs.MinorCollection.{Survives, vanishes, settles, after_minor, clear_target, left_target}
 use Rattle.store_model.specs.Sound.{IsSound, IsPhaseSound, AreCutOff, AreGone, AreLinksSound}
-use Rattle.heap_parts.proofs.Members.{in-either, in-left, in-right}
-use Rattle.heap_parts.proofs.ReachLaws.{and_both, and_first, and_second}
-use Rattle.minor_collect.proofs.SameMembers.{false-in}
 use Rattle.minor_collect.proofs.EndHomes.{found_where}
 use Rattle.minor_collect.proofs.StoreAfter.{left_objects, is_kept_left, refs_left, refs_gone, referents_left, referents_gone, target_left, target_gone}
 use Rattle.minor_collect.proofs.Survives.{root_stays, registered_stays, referent_stays, in_where, where_in}

@@ -7,7 +7,7 @@ use Rattle.std.proofs.lemmas.Bool.Decides.{eqb_tells}
 use Rattle.std.proofs.lemmas.List.Elements.{All-nil, All-cons, All-head, All-tail}
 use Rattle.type_table.specs.Table.{Table, KeysRise, value_at}
 use Rattle.type_table.proofs.TableLaws.{first_key_below, KeysRise-tail, KeysRise-cons}
-use Rattle.object_view.proofs.WordLaws.{is_in-head, is_in-tail}
+use Rattle.object_model.proofs.Members.{is_in-head, is_in-tail, and_both, in-either, in-left, in-right, false-in, not-in}
 use Rattle.text_model.specs.declared.line.Fate.{Fate}
 use Rattle.text_model.specs.declared.line.Fate.TheVariants as fate
 use Rattle.object_model.specs.Sets.{is_in}
@@ -17,9 +17,6 @@ use Rattle.store_model.specs.Links.{link_ends, entry_after, struct_after, left_b
 use Rattle.store_model.specs.Roots.{is_kept}
 use Rattle.store_model.specs.Sound.{AreLinksSound, p_linked_object, IsOwnSound}
 use Rattle.store_model.specs.MinorCollection.{vanishes, after_minor}
-use Rattle.heap_parts.proofs.Members.{in-either, in-left, in-right}
-use Rattle.heap_parts.proofs.ReachLaws.{and_both}
-use Rattle.minor_collect.proofs.SameMembers.{false-in, not-in}
 use Rattle.minor_collect.proofs.StoreAfter.{is_kept_left}
 use Rattle.minor_collect.proofs.EndLinks.{numbered}
 

@@ -8,7 +8,7 @@ use Rattle.type_table.specs.Table.{Table}
 use Rattle.heap_space.specs.Places.{word_at}
 use Rattle.heap_space.specs.Extents.{Extent}
 use Rattle.nursery_gaps.specs.Nursery.{Layout as NurseryLayout}
-use Rattle.object_view.proofs.WordLaws.{map-same, is_in-head, is_in-tail}
+use Rattle.object_model.proofs.Members.{map-same, is_in-head, is_in-tail}
 use Rattle.object_model.specs.Sets.{is_in}
 use Rattle.store_model.specs.Store.{Store}
 use Rattle.object_model.specs.ObjectWords.{words_at}

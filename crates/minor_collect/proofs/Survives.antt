@@ -4,15 +4,14 @@ use Rattle.std.specs.Prelude.{not, ◌&&◌, ◌||◌, is_some}
 use Rattle.std.specs.List.{list_any}
 use Rattle.std.proofs.lemmas.Bool.{cases_Bool, eq-eqb}
 use Rattle.std.proofs.lemmas.Bool.Decides.{eqb_tells}
-use Rattle.object_view.proofs.WordLaws.{is_in-head, is_in-tail, is_in-cases, is_in-nil}
+use Rattle.object_model.proofs.Members.{is_in-head, is_in-tail, is_in-cases, is_in-nil, and_both, or_first, or_second}
 use Rattle.object_model.specs.Object.{Object, referents, object_at}
 use Rattle.store_model.specs.Store.{Store, is_settled}
 use Rattle.object_model.specs.Sets.{is_in}
 use Rattle.store_model.specs.Roots.{is_kept, roots_of, registered_births, referents_in}
 use Rattle.store_model.specs.Reach.{Tells, refers, births_where, is_root, is_registered}
 use Rattle.store_model.specs.MinorCollection.{is_unsettled, is_entry, refers_unsettled, has_settled_referrer, Survives}
-use Rattle.heap_parts.proofs.HeldLaws.{or-first, or-second}
-use Rattle.heap_parts.proofs.ReachLaws.{LeadsTo-start, LeadsTo-step, and_both}
+use Rattle.heap_parts.proofs.ReachLaws.{LeadsTo-start, LeadsTo-step}
 use Rattle.minor_collect.specs.Ending.{stays}
 
 pub stay-settled : (kept settled survives : Bool) → IsTrue settled → IsTrue (not ((kept && not settled) && not survives))
@@ -42,8 +41,8 @@ any-kept test [] x o e t = absurd (let no : ⊥ = cc in no)
 any-kept test (k ∷ kept) x o e t = elim (eqb_tells x k.birth) [
   | inl same ↦
       let found : Some k ≡ Some o = (let f : object_at (k ∷ kept) x ≡ Some k = rw same.0 refl in sym f) ∙ e in
-      or-first (test k) (list_any test kept) (subst (λ (z : Object). IsTrue (test z)) (sym (let inj : k ≡ o = cc in inj)) t)
-  | inr other ↦ or-second (test k) (list_any test kept) (any-kept test kept x o ((let f : object_at kept x ≡ object_at (k ∷ kept) x = rw other.0 refl in f) ∙ e) t)
+      or_first (test k) (list_any test kept) (subst (λ (z : Object). IsTrue (test z)) (sym (let inj : k ≡ o = cc in inj)) t)
+  | inr other ↦ or_second (test k) (list_any test kept) (any-kept test kept x o ((let f : object_at kept x ≡ object_at (k ∷ kept) x = rw other.0 refl in f) ∙ e) t)
 ]
 
 pub found-birth : (kept : List Object) (x : ℕ) (o : Object) → object_at kept x ≡ Some o → o.birth ≡ x
@@ -76,16 +75,16 @@ module _ (store : Store) (survives : ℕ → Bool) (tells : Tells survives (Surv
       (and_both (is_unsettled store x) _ unsettled t))))
 
   pub root_stays : (x : ℕ) → IsTrue (is_kept store.kept x) → IsTrue (is_in x (roots_of store)) → IsTrue (stays store survives x)
-  root_stays x k t = entry-stays x k (or-first (is_root store x) (is_registered store x || has_settled_referrer store x) t)
+  root_stays x k t = entry-stays x k (or_first (is_root store x) (is_registered store x || has_settled_referrer store x) t)
 
   pub registered_stays : (x : ℕ) → IsTrue (is_kept store.kept x) → IsTrue (is_in x (registered_births store)) → IsTrue (stays store survives x)
-  registered_stays x k t = entry-stays x k (or-second (is_root store x) (is_registered store x || has_settled_referrer store x) (or-first (is_registered store x) (has_settled_referrer store x) t))
+  registered_stays x k t = entry-stays x k (or_second (is_root store x) (is_registered store x || has_settled_referrer store x) (or_first (is_registered store x) (has_settled_referrer store x) t))
 
   -- what a staying object refers to stays
   pub referent_stays : (x y : ℕ) → IsTrue (is_kept store.kept y) → IsTrue (stays store survives x) → IsTrue (is_in y (referents_in (object_at store.kept x))) → IsTrue (stays store survives y)
   referent_stays x y k s t = elim (stay-either (is_kept store.kept x) (is_in x store.settled) (survives x) (referent-kept (object_at store.kept x) y t) s) [
-    | inl settled ↦ entry-stays y k (or-second (is_root store y) (is_registered store y || has_settled_referrer store y)
-        (or-second (is_registered store y) (has_settled_referrer store y) (referrer-found store x y (object_at store.kept x) refl t settled)))
+    | inl settled ↦ entry-stays y k (or_second (is_root store y) (is_registered store y || has_settled_referrer store y)
+        (or_second (is_registered store y) (has_settled_referrer store y) (referrer-found store x y (object_at store.kept x) refl t settled)))
     | inr survived ↦ decide-settled y (λ u. settled_stays y u) (λ f.
         let unsettled : IsTrue (is_unsettled store y) = rw (k, f) refl in
         stay-survives (is_unsettled store y) (survives y) ((tells y).1
