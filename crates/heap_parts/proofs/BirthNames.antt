@@ -14,7 +14,7 @@ use Rattle.heap_parts.specs.Remembered.{Held, Remembered, holds_item, is_held_of
 use Rattle.heap_parts.specs.Places.{AreAmong}
 use Rattle.heap_parts.specs.Lists.{named_entries, named_queues, HoldsList, HoldsEntries, HoldsQueues, HoldsLinks}
 use Rattle.heap_parts.specs.StandsFor.{HoldsFinalizers}
-use Rattle.heap_parts.proofs.StructLaws.{behind-first, first-value}
+use Rattle.store_model.proofs.StructLaws.{behind-first, first-value}
 
 -- names agree on these places
 abbrev pub AgreeOn : (ℕ → ℕ) → (ℕ → ℕ) → List ℕ → Type 0

@@ -44,9 +44,9 @@ use Rattle.heap_parts.proofs.Births.{rise-more}
 use Rattle.heap_parts.proofs.PlaceLaws.{placed_words, young-is_in, old-is_in, is_in-young, is_in-old, young-more, old-more, young-same, old-same, filter-more, filter-same}
 use Rattle.heap_parts.proofs.SameLayouts.{sum-same, sum-more}
 use Rattle.heap_parts.proofs.KeepWords.{SameWords, firsts-stay, headers_kept, young_flags_kept, remembered_kept, husks_kept}
-use Rattle.heap_parts.proofs.OrderLaws.{plain_in_order}
+use Rattle.store_model.proofs.OrderLaws.{plain_in_order}
 use Rattle.heap_parts.proofs.RootStands.{slots-set}
-use Rattle.heap_parts.proofs.BirthSound.{sound_born, born_order, kept-in}
+use Rattle.store_model.proofs.BirthSound.{sound_born, born_order, kept-in}
 use Rattle.heap_parts.proofs.BirthNames.{AgreeOn, entries_agree, finalizers_agree, links_agree, held_agrees}
 
 -- one weak object more, or not

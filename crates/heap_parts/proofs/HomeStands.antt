@@ -23,8 +23,9 @@ use Rattle.heap_parts.proofs.BlockLaws.{each-member}
 use Rattle.heap_parts.proofs.KeepWords.{firsts-stay, headers_kept, young_flags_kept, remembered_kept}
 use Rattle.heap_parts.proofs.WriteWords.{each-imp, each-both, each-reserved}
 use Rattle.heap_parts.proofs.TakeLaws.{MemoryKeeps, memory_same, memory_kept}
-use Rattle.heap_parts.proofs.ReserveLaws.{home_sound, found-in}
-use Rattle.heap_parts.proofs.BirthSound.{kept-in}
+use Rattle.heap_parts.proofs.ReserveLaws.{found-in}
+use Rattle.store_model.proofs.HomeSound.{home_sound}
+use Rattle.store_model.proofs.BirthSound.{kept-in}
 use Rattle.heap_parts.proofs.ReviveStands.{named-kept}
 
 -- a settled object is not at another's home

@@ -19,13 +19,12 @@ use Rattle.heap_parts.specs.Parts.{HeapParts, place_in}
 use Rattle.heap_parts.specs.Lists.{named_queues, HoldsSlots}
 use Rattle.heap_parts.specs.StandsFor.{PartsStandFor}
 use Rattle.heap_parts.proofs.StandLaws.{in_slot}
-use Rattle.heap_parts.proofs.LinkLaws.{held_root}
-use Rattle.heap_parts.proofs.SoundLaws.{CanBeRoot}
-use Rattle.heap_parts.proofs.RootLaws.{relieves_none, can_root, RootChange, roots_each, are_roots, set-in, queued_births, chosen_births}
+use Rattle.store_model.proofs.RootLaws.{held_root, relieves_none, can_root, RootChange, roots_each, are_roots, set-in, queued_births, chosen_births}
+use Rattle.store_model.proofs.SoundLaws.{CanBeRoot}
 use Rattle.heap_parts.proofs.RootStands.{rooted_stands, slots-set}
 use Rattle.heap_parts.proofs.ReviveStands.{place_or_nil, renamed-full}
-use Rattle.heap_parts.proofs.BirthSound.{distinct-insert}
-use Rattle.heap_parts.proofs.Times.{once_less, times_first}
+use Rattle.store_model.proofs.BirthSound.{distinct-insert}
+use Rattle.store_model.proofs.Times.{once_less, times_first}
 
 -- the heap with one registered object more
 abbrev pub with_registered : HeapParts → ℕ → ℕ → HeapParts

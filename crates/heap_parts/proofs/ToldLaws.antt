@@ -10,7 +10,7 @@ use Rattle.store_model.specs.Store.{Struct, Linked, Unlinked, Pending}
 use Rattle.object_model.specs.Sets.{is_in}
 use Rattle.store_model.specs.StructChecks.{is_p_link_of}
 use Rattle.store_model.specs.Structs.{object_of, p_link_of, with_object, with_objects}
-use Rattle.heap_parts.proofs.StructLaws.{behind-first, first-value}
+use Rattle.store_model.proofs.StructLaws.{behind-first, first-value}
 
 -- names that differ on places
 abbrev pub OneNamed : (ℕ → ℕ) → List ℕ → Type 0

@@ -14,7 +14,7 @@ use Rattle.store_model.specs.Roots.{registered_births}
 use Rattle.store_model.specs.Reach.{Tells, Leads, Reaches, refers, is_registered}
 use Rattle.store_model.specs.Marking.{is_white, is_dying, stands_before, IsChosen}
 use Rattle.store_model.specs.Sound.{IsSound, waiting_births}
-use Rattle.heap_parts.proofs.Times.{once_first}
+use Rattle.store_model.proofs.Times.{once_first}
 use Rattle.heap_phases.proofs.ChosenPasses.{candidates, unreached_later, is_before, AreOnce, IsFirst, passes_find, passes_all}
 use Rattle.heap_phases.proofs.TestsExist.{reaches, reaches_tells}
 

@@ -28,7 +28,7 @@ use Rattle.heap_parts.proofs.PlaceLaws.{old-is_in}
 use Rattle.heap_parts.proofs.SameLayouts.{SameLayouts}
 use Rattle.heap_phases.proofs.EndWords.{staying, losing, young_staying, old_staying, lost_old}
 use Rattle.heap_parts.proofs.Filters.{not-true}
-use Rattle.heap_parts.proofs.After.{left_objects, refs_left}
+use Rattle.store_model.proofs.After.{left_objects, refs_left}
 
 -- the first words afterwards: a settled object that stays carries the mark, and the others' stay
 pub record EndsHeads (v w : ℕ → ℕ) (home : ℕ → Option ℕ) (gone : ℕ → Bool) (name : ℕ → ℕ) (places : List ℕ) : Type 0 where

@@ -26,7 +26,7 @@ use Rattle.heap_parts.specs.OldSpace.{blocks_of, reserved_blocks}
 use Rattle.heap_parts.specs.Lists.{HoldsSlots, HoldsEntries, HoldsQueues, HoldsLinks, named_entries, named_queues}
 use Rattle.heap_parts.specs.StandsFor.{HoldsBirths, HoldsHomes}
 use Rattle.heap_parts.proofs.BirthNames.{rises-unnamed}
-use Rattle.heap_parts.proofs.CutSound.{was_linked}
+use Rattle.store_model.proofs.CutSound.{was_linked}
 use Rattle.heap_parts.proofs.Births.{rise-lower}
 use Rattle.heap_parts.proofs.PlaceLaws.{old-is_in, settled-old}
 use Rattle.heap_phases.proofs.EndWords.{staying, losing, young_staying, old_staying}

@@ -27,10 +27,10 @@ use Rattle.store_model.specs.Reach.{Tells, objects_where}
 use Rattle.store_model.specs.Marking.{IsMarked, IsSaved, IsChosen, is_white, is_dying, is_condemned, after_marking}
 use Rattle.store_model.specs.Sound.{IsSound, IsPhaseSound, IsMarkingSound, AreCutOff, AreGone, AreLinksSound, births_in, waiting_births}
 use Rattle.heap_parts.specs.Collects.{AreAllPinned}
-use Rattle.heap_parts.proofs.Times.{times, times_append, times_parts, once_less}
+use Rattle.store_model.proofs.Times.{times, times_append, times_parts, once_less}
 use Rattle.heap_phases.proofs.EndStore.{stays_refers, root_stays, registered_stays, saved_stays, black_stays, doomed_gone, leads_start}
 use Rattle.heap_parts.proofs.Filters.{not-true}
-use Rattle.heap_parts.proofs.After.{kept_left, refs_left, was_kept, was_referent, was_target, no_target_left, birth_where, in_births_where}
+use Rattle.store_model.proofs.After.{kept_left, refs_left, was_kept, was_referent, was_target, no_target_left, birth_where, in_births_where}
 
 -- entries that pass a test
 pub entry_part : (test : ℕ → Bool) (es : List (ℕ × ℕ)) (x : ℕ) → IsTrue (is_in x (map (λ e. e.0) (filter (λ e. test e.0) es)))

@@ -43,8 +43,8 @@ use Rattle.heap_phases.proofs.EndWords.{EndsWords, staying, losing, end_words, e
 use Rattle.heap_phases.proofs.EndHeaders.{EndsHeads, end_headers, end_young_flags, end_visited, end_remembered, end_order}
 use Rattle.heap_parts.specs.Headers.{is_marked}
 use Rattle.heap_parts.proofs.Filters.{not-true}
-use Rattle.heap_parts.proofs.CutSound.{cut_sound}
-use Rattle.heap_parts.proofs.After.{left_objects, kept_left}
+use Rattle.store_model.proofs.CutSound.{cut_sound}
+use Rattle.store_model.proofs.After.{left_objects, kept_left}
 use Rattle.heap_phases.proofs.EndSound.{end_sound, settled_before, settled_now}
 
 pub sum_map : (f : ℕ → ℕ) (types : Table TypeInfo) (v : ℕ → ℕ) (ps : List ℕ) → husk_words (map (λ p. (v (p + 1), words_at types v p)) ps) ≡ sum_by (words_at types v) ps

@@ -21,7 +21,7 @@ use Rattle.heap_parts.specs.Order.{IsGrayOf}
 use Rattle.heap_parts.specs.Headers.{is_marked}
 use Rattle.heap_parts.specs.Lists.{named_entries, named_queues}
 use Rattle.heap_parts.specs.StandsFor.{PartsStandFor}
-use Rattle.heap_parts.proofs.Times.{times_queued, once_less}
+use Rattle.store_model.proofs.Times.{times_queued, once_less}
 
 -- the parts afterwards
 abbrev pub final_parts : HeapParts → HeapParts

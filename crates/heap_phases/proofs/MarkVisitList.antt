@@ -10,7 +10,7 @@ use Rattle.store_model.specs.MarkingOrder.{settled_of, Visits, NoVisit, Passed, 
 use Rattle.heap_phases.proofs.MarkSets.{⊎_elim, false≢true, is_false, equal, in-one}
 use Rattle.object_model.proofs.Members.{and_both, or_cases, not_both, in-left, in-right}
 use Rattle.heap_phases.proofs.MarkVisit.{StepOrder, order-passed, order-visited}
-use Rattle.heap_parts.proofs.Filters.{all_differ}
+use Rattle.object_model.proofs.Distinct.{all_differ}
 
 module _ (kept : List Object) (settled : List ℕ) (remembered : ℕ → ℕ → Bool) (unreached : List ℕ) (settled_kept : AreKept kept settled) (cut_off : AreCutOff kept unreached) where
   -- the births join the visited, in order

@@ -16,7 +16,7 @@ use Rattle.store_model.specs.Structs.{Structs, object_of}
 use Rattle.store_model.specs.Links.{cut_links, entry_after, link_end, link_ends, newly_dead}
 use Rattle.heap_parts.specs.Remembered.{Held, held_places}
 use Rattle.heap_parts.specs.Parts.{HeapParts}
-use Rattle.heap_parts.proofs.StructLaws.{first-value, behind-first}
+use Rattle.store_model.proofs.StructLaws.{first-value, behind-first}
 use Rattle.heap_phases.specs.EndOfMarking.{marked_parts, without_dead}
 
 -- a filter of what is listed by a place

@@ -18,7 +18,7 @@ use Rattle.heap_parts.proofs.BirthNames.{rises-unnamed}
 use Rattle.heap_parts.proofs.Filters.{filter_at}
 use Rattle.heap_parts.proofs.MinorNeeds.{settled_place}
 use Rattle.heap_parts.proofs.PlaceLaws.{young-is_in}
-use Rattle.heap_parts.proofs.StructLaws.{forced-at}
+use Rattle.store_model.proofs.StructLaws.{forced-at}
 use Rattle.heap_phases.specs.Visiting.{old_roots}
 use Rattle.heap_phases.proofs.EndLists.{names-entries, names-queues}
 use Rattle.heap_phases.proofs.VisitRefs.{refs-named}

@@ -20,7 +20,7 @@ use Rattle.heap_parts.specs.Headers.{is_marked}
 use Rattle.heap_parts.specs.StandsFor.{PartsStandFor}
 use Rattle.heap_parts.specs.Collects.{AreAllPinned}
 use Rattle.heap_phases.proofs.EndStore.{leads_start, leads_step}
-use Rattle.heap_parts.proofs.After.{birth_where, in_births_where}
+use Rattle.store_model.proofs.After.{birth_where, in_births_where}
 use Rattle.heap_parts.proofs.Filters.{not-true}
 
 -- the store where marking starts

@@ -27,7 +27,7 @@ use Rattle.heap_parts.specs.StandsFor.{PartsStandButYoung}
 use Rattle.heap_parts.proofs.BirthNames.{listed}
 use Rattle.heap_parts.proofs.Births.{rise-differ}
 use Rattle.heap_parts.proofs.PlaceLaws.{young-is_in, old-is_in, is_in-old, named-by, settled-old, placed_words}
-use Rattle.heap_parts.proofs.ReachLaws.{LeadsTo-start}
+use Rattle.store_model.proofs.Rounds.{LeadsTo-start}
 use Rattle.minor_collect.proofs.NamedObjects.{weak_named, eq-flips}
 use Rattle.minor_collect.specs.Carried.{Carried, births_read, weak_births, none_moved}
 use Rattle.minor_collect.specs.Traces.{Traces}

@@ -16,7 +16,7 @@ use Rattle.object_model.specs.Holds.{HoldsObjects, IsPointer}
 use Rattle.heap_parts.specs.Parts.{HeapParts}
 use Rattle.heap_parts.specs.Lists.{HoldsSlots, HoldsEntries, HoldsLinks}
 use Rattle.heap_parts.proofs.BirthNames.{links_agree, rises-unnamed}
-use Rattle.heap_parts.proofs.StructLaws.{value_at-objects, behind-first, first-value}
+use Rattle.store_model.proofs.StructLaws.{value_at-objects, behind-first, first-value}
 use Rattle.minor_collect.specs.Carried.{Moved}
 use Rattle.minor_collect.specs.Midway.{Midway, Changing, Owes, FollowsLists, IsLasting, is_lasting}
 use Rattle.minor_collect.proofs.Weaks.{now_place}

@@ -22,7 +22,7 @@ use Rattle.heap_parts.specs.Parts.{HeapParts, word_in}
 use Rattle.heap_parts.specs.Places.{is_young, old_places, AreAmong}
 use Rattle.heap_parts.specs.StandsFor.{PartsStandButYoung}
 use Rattle.heap_parts.proofs.PlaceLaws.{old-is_in, is_in-old, named-by}
-use Rattle.heap_parts.proofs.ReachLaws.{equal}
+use Rattle.store_model.proofs.Rounds.{equal}
 use Rattle.minor_collect.specs.Carried.{Moved}
 use Rattle.minor_collect.specs.Midway.{Midway, Changing, Owes}
 use Rattle.minor_collect.specs.Gray.{ComesGray, IsQueuedFrom, QueuesWritten}

@@ -11,7 +11,7 @@ use Rattle.object_model.specs.Sets.{is_in}
 use Rattle.store_model.specs.Roots.{is_kept, roots_of, registered_births, referents_in}
 use Rattle.store_model.specs.Reach.{Tells, refers, births_where, is_root, is_registered}
 use Rattle.store_model.specs.MinorCollection.{is_unsettled, is_entry, refers_unsettled, has_settled_referrer, Survives}
-use Rattle.heap_parts.proofs.ReachLaws.{LeadsTo-start, LeadsTo-step}
+use Rattle.store_model.proofs.Rounds.{LeadsTo-start, LeadsTo-step}
 use Rattle.minor_collect.specs.Ending.{stays}
 
 pub stay-settled : (kept settled survives : Bool) → IsTrue settled → IsTrue (not ((kept && not settled) && not survives))

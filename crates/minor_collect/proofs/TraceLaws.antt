@@ -3,7 +3,7 @@ use Rattle.std.proofs.Common.{◌≡◌, ◌≢◌, ℕ, ◌⊎◌, Bool, false,
 use Rattle.object_model.proofs.Members.{is_in-head, is_in-tail, is_in-cases, in-either, in-left, in-right}
 use Rattle.object_model.specs.Sets.{is_in}
 use Rattle.store_model.specs.Reach.{Leads, LeadsTo, Tells}
-use Rattle.heap_parts.proofs.ReachLaws.{LeadsTo-start, LeadsTo-step}
+use Rattle.store_model.proofs.Rounds.{LeadsTo-start, LeadsTo-step}
 use Rattle.minor_collect.specs.Traces.{Traces}
 
 -- entries are young, and so is what a step leads to

@@ -1,7 +1,7 @@
 -- How many times a number stands in a list: births of finalizers stand once at most.
 use Rattle.std.proofs.Common.{◌≡◌, ℕ, ◌+◌, ◌<◌, ◌≤◌, Bool, true, false, nat_eq, List, [], ◌∷◌, ◌++◌, map, Option, Some, None, refl, sym, ap, ◌∙◌, subst, inl, inr, arith}
 use Rattle.std.specs.Prelude.{IsFalse, not, ◌==◌, filter, flat_map, unwrap_or, nat_lt}
-use Rattle.std.specs.List.{All, IsDistinct, AllByRecursion}
+use Rattle.std.specs.List.{All, IsDistinct}
 use Rattle.std.proofs.lemmas.Bool.{cases_Bool, eq-eqb}
 use Rattle.std.proofs.lemmas.Bool.Decides.{eqb_tells, nat_tests}
 use Rattle.std.proofs.lemmas.List.Elements.{All-head, All-tail}
@@ -10,7 +10,7 @@ use Rattle.type_table.proofs.TableLaws.{KeysRise-tail, KeysRise-with_value, firs
 use Rattle.object_model.specs.Sets.{is_in}
 use Rattle.store_model.specs.PlainCommands.{without_first}
 use Rattle.store_model.specs.Sweeping.{queues_with}
-use Rattle.heap_parts.proofs.Filters.{all_differ}
+use Rattle.object_model.proofs.Distinct.{all_differ, apart-out}
 
 -- one where the test holds
 abbrev pub one_if : Bool → ℕ
@@ -40,16 +40,12 @@ out-times x (y ∷ ys) none = elim (cases_Bool (y == x)) [
   | inr e ↦ (let is : times x (y ∷ ys) ≡ 0 + times x ys = rw e refl in rw e (out-times x ys (omega (arith, is, none))))
 ]
 
-all-out : (x : ℕ) (ys : List ℕ) → AllByRecursion (λ y. nat_eq x y ≡ false) ys → IsFalse (is_in x ys)
-all-out x [] all = refl
-all-out x (y ∷ ys) all = let f = all.0 in let other : (y == x) ≡ false = grind (arith, nat_tests) in rw other (all-out x ys all.1)
-
 -- what differs stands once at most, and the other way round
 distinct-times : (xs : List ℕ) → IsDistinct nat_eq xs → (x : ℕ) → times x xs ≤ 1
 unfolding IsDistinct
 distinct-times [] d x = omega arith
 distinct-times (y ∷ ys) d x = elim (eqb_tells y x) [
-  | inl e ↦ rw e.0 (let none = times-out x ys (subst (λ (k : ℕ). IsFalse (is_in k ys)) e.1 (all-out y ys d.0)) in omega (arith, none))
+  | inl e ↦ rw e.0 (let none = times-out x ys (subst (λ (k : ℕ). IsFalse (is_in k ys)) e.1 (apart-out y ys d.0)) in omega (arith, none))
   | inr e ↦ rw e.0 (let more = distinct-times ys d.1 x in omega (arith, more))
 ]
 

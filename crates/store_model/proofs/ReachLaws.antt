@@ -8,9 +8,9 @@ use Rattle.store_model.specs.Roots.{is_kept, referents_in}
 use Rattle.store_model.specs.Reach.{refers}
 use Rattle.store_model.specs.Sound.{AreFieldsKept, AreCutOff}
 use Rattle.store_model.specs.MarkingOrder.{AreAllIn}
-use Rattle.heap_parts.proofs.SoundLaws.{CanBeRoot}
-use Rattle.heap_parts.proofs.RootLaws.{Relieves}
-pub use Rattle.store_model.proofs.Rounds.{decide, equal, Leads-append, Leads-keeps, LeadsTo-start, LeadsTo-step, LeadsTo-least, spread, closure, is_closed, list_all-is_in, list_all-each, list_any-is_in, is_in-filter, open_or_in, Tells-closure, closure_closes, led_test, led_tells, kept-births, revived_by, tells_revived}
+use Rattle.store_model.proofs.SoundLaws.{CanBeRoot}
+use Rattle.store_model.proofs.RootLaws.{Relieves}
+use Rattle.store_model.proofs.Rounds.{Leads-append, is_in-filter, revived_by, tells_revived}
 use Rattle.object_model.proofs.Members.{and_first, and_second, and_both}
 
 not-true : (b : Bool) → not b ≡ true → b ≡ false

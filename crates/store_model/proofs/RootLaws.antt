@@ -15,7 +15,8 @@ use Rattle.store_model.specs.Structs.{forced_objects}
 use Rattle.store_model.specs.Roots.{is_kept, roots_of, registered_births, pinned_births, referents_in}
 use Rattle.store_model.specs.MarkingOrder.{AreAllIn, IsInOrder}
 use Rattle.store_model.specs.Sound.{IsSound, IsPhaseSound, AreCutOff, ArePinsSound, AreLinksSound, waiting_births}
-use Rattle.heap_parts.proofs.SoundLaws.{CanBeRoot}
+use Rattle.store_model.proofs.SoundLaws.{CanBeRoot}
+use Rattle.store_model.specs.Slots.{held}
 
 -- fewer objects are unreached and doomed, and what is left is cut off still
 pub record Relieves (kept : List Object) (unreached doomed unreached_after doomed_after : List ℕ) : Type 0 where
@@ -229,3 +230,14 @@ set-in (Some y ∷ slots) (suc slot) birth x t = elim (is_in-cases x y (filter_m
     | inr v ↦ inr (is_in-tail x y (filter_map (λ s. s) slots) v)
   ]
 ]
+
+held-in : (slots : List (Option ℕ)) (slot y : ℕ) → held slots slot ≡ Some y → IsTrue (is_in y (filter_map (λ s. s) slots))
+held-in [] slot y e = absurd (let no : ⊥ = cc in no)
+held-in (None ∷ slots) zero y e = absurd (let no : ⊥ = cc in no)
+held-in (Some x ∷ slots) zero y e = let same : x ≡ y = cc in subst (λ (k : ℕ). IsTrue (is_in k (x ∷ filter_map (λ s. s) slots))) same (is_in-head x (filter_map (λ s. s) slots))
+held-in (None ∷ slots) (suc slot) y e = held-in slots slot y e
+held-in (Some x ∷ slots) (suc slot) y e = is_in-tail y x (filter_map (λ s. s) slots) (held-in slots slot y e)
+
+-- what a slot holds is a root
+pub held_root : (store : Store) (slot y : ℕ) → held store.slots slot ≡ Some y → IsTrue (is_in y (roots_of store))
+held_root store slot y e = in-left y (filter_map (λ s. s) store.slots) _ (held-in store.slots slot y e)

@@ -16,7 +16,7 @@ use Rattle.store_model.specs.Roots.{is_kept}
 use Rattle.store_model.specs.Structs.{object_of}
 use Rattle.store_model.specs.Links.{cut_links, entry_after, struct_after, link_end, link_ends, newly_dead, left_by, fate_of, is_queued_by}
 use Rattle.store_model.specs.Sound.{AreLinksSound, IsOwnSound, p_linked_object}
-use Rattle.heap_parts.proofs.Filters.{distinct_append}
+use Rattle.object_model.proofs.Distinct.{distinct_append}
 use Rattle.type_table.proofs.TableLaws.{KeysRise-tail, KeysRise-cons, first_key_below}
 use Rattle.std.proofs.lemmas.List.Elements.{All-head, All-tail, All-cons}
 

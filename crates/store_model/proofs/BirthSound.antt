@@ -22,8 +22,8 @@ use Rattle.object_model.specs.Newborn.{Request, newborn}
 use Rattle.store_model.specs.Birth.{with_birth, settled_with}
 use Rattle.store_model.specs.Roots.{is_kept, roots_of, referents_in, target_in, pinned_births}
 use Rattle.store_model.specs.Sound.{IsSound, IsPhaseSound, AreCutOff, AreGone, AreBefore, births_in}
-use Rattle.heap_parts.proofs.RootLaws.{roots_each, are_roots, set-in}
-use Rattle.heap_parts.proofs.OrderLaws.{PlainChange}
+use Rattle.store_model.proofs.RootLaws.{roots_each, are_roots, set-in}
+use Rattle.store_model.proofs.OrderLaws.{PlainChange}
 
 -- a new object refers to nothing
 nothing-none : (n : ℕ) → filter_map (λ (r : Option ℕ). r) (replicate n None) ≡ []

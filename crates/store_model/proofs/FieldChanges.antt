@@ -10,7 +10,7 @@ use Rattle.object_model.specs.Sets.{is_in}
 use Rattle.object_model.specs.Fields.{refs_of, changed_at, with_int, with_ref}
 use Rattle.store_model.specs.Roots.{referents_in, target_in}
 use Rattle.store_model.specs.MarkingOrder.{IsItem}
-use Rattle.heap_parts.proofs.SoundLaws.{SameButFor}
+use Rattle.store_model.proofs.SoundLaws.{SameButFor}
 
 later : (y : ℕ) (r : Option ℕ) (xs : List ℕ) → IsTrue (is_in y xs) → IsTrue (is_in y (cons_option r xs))
 later y None xs t = t

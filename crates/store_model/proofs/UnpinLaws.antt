@@ -3,14 +3,14 @@ use Rattle.std.proofs.Common.{◌≡◌, ◌≢◌, ℕ, zero, suc, ◌-◌, ◌
 use Rattle.std.specs.Prelude.{IsFalse, ◌==◌, nat_lt, ◌||◌}
 use Rattle.std.specs.List.{IsDistinct, AllByRecursion, All}
 use Rattle.std.proofs.lemmas.List.Elements.{All-cons, All-head, All-tail}
-use Rattle.std.proofs.lemmas.Bool.{cases_Bool, eq-eqb, ne_eqb}
+use Rattle.std.proofs.lemmas.Bool.{eq-eqb, ne_eqb}
 use Rattle.std.proofs.lemmas.Bool.Decides.{eqb_tells, nat_tests}
 use Rattle.object_model.specs.Object.{Object}
 use Rattle.object_model.specs.Sets.{is_in}
 use Rattle.store_model.specs.Identity.{pin_count, pinned_less, with_count}
 use Rattle.store_model.specs.Sound.{ArePinsSound}
-use Rattle.heap_parts.proofs.ReserveLaws.{differ-in}
-use Rattle.heap_parts.proofs.PinLaws.{keys, less-in}
+use Rattle.object_model.proofs.Distinct.{apart-out}
+use Rattle.store_model.proofs.PinLaws.{keys, less-in}
 
 abbrev IsCounted : ℕ × ℕ → Type 0
 IsCounted entry = (0 < entry.1) × (entry.1 ≤ 65535)
@@ -76,9 +76,6 @@ less_sound {pinned = pinned} b s = record {
   no_target = λ x t. s.no_target x (less-in pinned b x t);
 }
 
-not-among : (x : ℕ) (ps : List ℕ) → AllByRecursion (λ y. nat_eq x y ≡ false) ps → IsFalse (is_in x ps)
-not-among x ps all = elim (cases_Bool (is_in x ps)) [ inl t ↦ absurd (differ-in x ps all t) | inr f ↦ f ]
-
 counted-here : (k n : ℕ) (es : List (ℕ × ℕ)) → IsFalse (is_in k (keys es)) → is_in k (keys (with_count k n es)) ≡ nat_lt 0 n
 counted-here k zero es f = f
 counted-here k (suc n) es f = rw (eq-eqb k k refl) (let some : nat_lt 0 (suc n) ≡ true = grind (arith, nat_tests) in sym some)
@@ -90,7 +87,7 @@ less-here [] b d = refl
 less-here (e ∷ pins) b d =
     let more = less-here pins b d.1 in
     elim (eqb_tells e.0 b) [
-      | inl same ↦ rw same.0 (let P : ℕ → Type 0 = λ k. is_in k (keys (with_count e.0 (e.1 - 1) pins)) ≡ nat_lt 0 (e.1 - 1) in subst P same.1 (counted-here e.0 (e.1 - 1) pins (not-among e.0 (keys pins) d.0)))
+      | inl same ↦ rw same.0 (let P : ℕ → Type 0 = λ k. is_in k (keys (with_count e.0 (e.1 - 1) pins)) ≡ nat_lt 0 (e.1 - 1) in subst P same.1 (counted-here e.0 (e.1 - 1) pins (apart-out e.0 (keys pins) d.0)))
       | inr differ ↦ rw (differ.0, differ.0) more
     ]
 
