@@ -10,10 +10,6 @@ use Rattle.large_objects.proofs.Same.{filter-same, same-permutation, permutation
 use Rattle.object_model.proofs.Members.{is_in-head, is_in-tail, filter-member}
 use Rattle.object_model.specs.Sets.{is_in}
 
-pub not-true : (b : Bool) → not b ≡ true → b ≡ false
-not-true true e = absurd (let no : ⊥ = cc in no)
-not-true false e = refl
-
 -- two tests in either order
 pub filter_swap : (f g : ℕ → Bool) (xs : List ℕ) → filter f (filter g xs) ≡ filter g (filter f xs)
 filter_swap f g [] = refl

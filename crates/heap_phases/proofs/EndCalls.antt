@@ -36,8 +36,7 @@ use Rattle.text_model.specs.declared.line.Phase.TheVariants.{Marking}
 use Rattle.store_model.specs.Sound.{IsPhaseSound}
 use Rattle.heap_parts.specs.Headers.{is_marked}
 use Rattle.heap_parts.proofs.MinorNeeds.{settled_place}
-use Rattle.heap_parts.proofs.Filters.{not-true}
-use Rattle.object_model.proofs.Members.{and_second, and_first}
+use Rattle.object_model.proofs.Members.{not-true, and_second, and_first}
 
 -- the blocks outside the nursery, as they stand in marking
 abbrev pub marking_blocks : (heap : HeapParts) (store : Store) → PartsStandFor heap store → List Extent

@@ -11,7 +11,7 @@ use Rattle.heap_space.specs.Places.{word_at}
 use Rattle.heap_space.specs.Memory.{Memory}
 use Rattle.object_header.specs.Words.{has_flag}
 use Rattle.object_header.specs.declared.flags.Flag.TheVariants.{Visited}
-use Rattle.object_model.proofs.Members.{is_in-nil, map-same, filter-part, in-left, in-right, and_first, and_second}
+use Rattle.object_model.proofs.Members.{is_in-nil, map-same, filter-part, in-left, in-right, and_first, and_second, not-true}
 use Rattle.old_space.specs.HasBlocks.{greatest_small}
 use Rattle.old_space.specs.declared.Old.{Old}
 use Rattle.object_model.specs.declared.settings.Settings.{Settings}
@@ -38,14 +38,13 @@ use Rattle.heap_phases.specs.EndOfMarking.{marked_parts}
 use Rattle.heap_parts.proofs.PlaceLaws.{placed_words, young-is_in, old-is_in}
 use Rattle.heap_parts.proofs.MinorNeeds.{settled_place}
 use Rattle.heap_parts.proofs.SameLayouts.{sum-same}
-use Rattle.heap_phases.proofs.EndStore.{stays_refers, black_stays, root_stays, registered_stays, unsettled_stays}
+use Rattle.store_model.proofs.EndOfMarking.{stays_refers, black_stays, root_stays, registered_stays, unsettled_stays}
 use Rattle.heap_phases.proofs.EndWords.{EndsWords, staying, losing, end_words, end_waits, young_staying, old_staying, losing_old}
 use Rattle.heap_phases.proofs.EndHeaders.{EndsHeads, end_headers, end_young_flags, end_visited, end_remembered, end_order}
 use Rattle.heap_parts.specs.Headers.{is_marked}
-use Rattle.heap_parts.proofs.Filters.{not-true}
 use Rattle.store_model.proofs.CutSound.{cut_sound}
 use Rattle.store_model.proofs.After.{left_objects, kept_left}
-use Rattle.heap_phases.proofs.EndSound.{end_sound, settled_before, settled_now}
+use Rattle.store_model.proofs.MarkedSound.{end_sound, settled_before, settled_now}
 
 pub sum_map : (f : ℕ → ℕ) (types : Table TypeInfo) (v : ℕ → ℕ) (ps : List ℕ) → husk_words (map (λ p. (v (p + 1), words_at types v p)) ps) ≡ sum_by (words_at types v) ps
 sum_map f types v [] = refl

@@ -26,8 +26,8 @@ use Rattle.heap_parts.specs.Collects.{IsCollected}
 use Rattle.heap_parts.proofs.PlaceLaws.{old-is_in}
 use Rattle.heap_phases.specs.Visiting.{PlaceVisits, with_gray, old_roots}
 use Rattle.heap_phases.proofs.RootPlaces.{old_roots_named, old_roots_there}
-use Rattle.heap_phases.proofs.MarkVisit.{StepOrder, order-visits, order-roots}
-use Rattle.heap_phases.proofs.MarkStep.{step_goes_on, step_ends, marked_after}
+use Rattle.store_model.proofs.MarkVisit.{order-visits, order-roots, StepOrder}
+use Rattle.store_model.proofs.MarkStep.{step_goes_on, step_ends, marked_after}
 use Rattle.heap_phases.proofs.PlaceChain.{AtPlaces, VisitsTo, visits_stand, with-gray-at}
 use Rattle.heap_phases.proofs.MajorSteps.{StepsTo, EndsTo, in-phase}
 

@@ -19,8 +19,9 @@ use Rattle.heap_parts.specs.Headers.{is_marked}
 use Rattle.heap_parts.specs.StandsFor.{PartsStandFor}
 use Rattle.heap_parts.proofs.PlaceLaws.{old-is_in}
 use Rattle.heap_phases.specs.Visiting.{old_refs, with_gray, with_visit, PlaceVisits, NoPlace, PassesPlace, VisitsPlace}
-use Rattle.heap_phases.proofs.MarkVisit.{StepOrder, order-passed, order-visited}
-use Rattle.heap_phases.proofs.VisitStands.{visit_stands, visit_places, visited_too}
+use Rattle.store_model.proofs.MarkVisit.{order-visited, StepOrder, order-passed}
+use Rattle.heap_phases.proofs.VisitStands.{visit_stands, visit_places}
+use Rattle.store_model.proofs.VisitSound.{visited_too}
 use Rattle.heap_phases.proofs.VisitRefs.{refs_queued, ref_place}
 
 -- the parts stand for the store, with these places and names

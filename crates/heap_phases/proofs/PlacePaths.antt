@@ -4,7 +4,7 @@ use Rattle.std.specs.Prelude.{not, ◌&&◌, filter, is_some}
 use Rattle.std.proofs.lemmas.Bool.{cases_Bool}
 use Rattle.object_header.specs.Words.{has_flag}
 use Rattle.object_header.specs.declared.flags.Flag.TheVariants.{Visited}
-use Rattle.object_model.proofs.Members.{filter-part, filter-member, and_first, and_second, and_both, is_in-named}
+use Rattle.object_model.proofs.Members.{filter-part, filter-member, and_first, and_second, and_both, is_in-named, not-true}
 use Rattle.text_model.specs.declared.line.Phase.{Phase}
 use Rattle.text_model.specs.declared.line.Phase.TheVariants.{Marking}
 use Rattle.store_model.specs.Store.{Store, is_settled}
@@ -20,9 +20,8 @@ use Rattle.heap_parts.specs.StandsFor.{PartsStandFor}
 use Rattle.heap_parts.specs.Collects.{AreAllPinned}
 use Rattle.heap_parts.proofs.PlaceLaws.{old-is_in, is_in-old, named-by}
 use Rattle.heap_parts.proofs.MinorNeeds.{settled_place}
-use Rattle.heap_phases.proofs.EndStore.{referents-some}
+use Rattle.store_model.proofs.EndOfMarking.{referents-some}
 use Rattle.heap_phases.proofs.EndLists.{names-entries}
-use Rattle.heap_parts.proofs.Filters.{not-true}
 use Rattle.object_view.proofs.FoundLaws.{found-at}
 use Rattle.heap_phases.specs.Visiting.{old_refs}
 use Rattle.heap_phases.proofs.VisitRefs.{refs_queued, ref_place}

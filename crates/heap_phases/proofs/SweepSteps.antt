@@ -36,7 +36,7 @@ use Rattle.std.proofs.lemmas.List.Sorted.{IsPermutation-refl, IsPermutation-sym,
 use Rattle.text_model.specs.declared.line.Line.{Line}
 use Rattle.text_model.specs.declared.line.Line.TheVariants.{Stepped, Freed}
 use Rattle.heap_parts.proofs.RiseLines.{sorted_births, keys_between}
-use Rattle.heap_phases.proofs.EndSound.{entry_part}
+use Rattle.store_model.proofs.MarkedSound.{entry_part}
 use Rattle.object_model.specs.Object.{Object}
 use Rattle.type_table.proofs.TableLaws.{KeysRise-entries_where}
 use Rattle.std.proofs.lemmas.Simd.{map-map}

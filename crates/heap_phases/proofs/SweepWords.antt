@@ -18,7 +18,7 @@ use Rattle.object_header.specs.declared.flags.Flag.TheVariants.{Visited}
 use Rattle.object_header.proofs.WordLaws.{type_of-without_flag, IsHeader-without_flag, without_flag-stays}
 use Rattle.size_pages.specs.Headers.{IsHeaded}
 use Rattle.object_view.proofs.WordLaws.{updated-here, updated-other}
-use Rattle.object_model.proofs.Members.{is_in-head, is_in-tail, is_in-cases, map-same, filter-part, filter-agree, in-left, in-right}
+use Rattle.object_model.proofs.Members.{is_in-head, is_in-tail, is_in-cases, map-same, filter-part, filter-agree, in-left, in-right, not-true}
 use Rattle.object_view.proofs.LayoutLaws.{KeepsLayout, SameAt, laid_out, keeps-same, info_at-same, object_from-same}
 use Rattle.object_view.proofs.FrameLaws.{keeps-header, header-same, same_hold}
 use Rattle.old_space.specs.HasBlocks.{HasBlocks, IsBlock}
@@ -43,7 +43,7 @@ use Rattle.heap_parts.proofs.SameLayouts.{SameLayouts, walk-same}
 use Rattle.heap_parts.proofs.KeepWords.{SameObjects, blocks_same}
 use Rattle.nursery_gaps.specs.Ranges.{Range}
 use Rattle.std.proofs.lemmas.List.Sorted.{list_any-IsPermutation}
-use Rattle.heap_parts.proofs.Filters.{filter_at, not-true}
+use Rattle.heap_parts.proofs.Filters.{filter_at}
 use Rattle.heap_parts.proofs.WriteWords.{each-reserved, each-both}
 
 pub each-of-places : (P : Extent → Type 0) (f : ℕ → Extent) (ps : List ℕ) → ((p : ℕ) → IsTrue (is_in p ps) → P (f p)) → Each P (map f ps)

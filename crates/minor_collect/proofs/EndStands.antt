@@ -53,11 +53,10 @@ use Rattle.minor_collect.proofs.EndBirths.{settled_end, rise_part, end_sums, par
 use Rattle.minor_collect.proofs.EndHomes.{end_homes}
 use Rattle.minor_collect.proofs.EndLinks.{end_links}
 use Rattle.minor_collect.proofs.EndOrder.{MinorChange, minor_in_order}
-use Rattle.minor_collect.proofs.EndSound.{minor_sound}
-use Rattle.minor_collect.proofs.LinksSound.{minor_links_sound}
+use Rattle.store_model.proofs.MinorSound.{minor_sound, minor_links_sound}
 use Rattle.minor_collect.proofs.SameSurvivors.{tells_survives}
-use Rattle.minor_collect.proofs.Survives.{where_in}
-use Rattle.minor_collect.proofs.StoreAfter.{item_before}
+use Rattle.store_model.proofs.Survives.{where_in}
+use Rattle.store_model.proofs.StoreAfter.{item_before}
 
 -- first words of fewer places
 pub firsts-fewer : {P : ℕ → ℕ → Type 0} {ps qs : List ℕ} {w : ℕ → ℕ} → ((p : ℕ) → IsTrue (is_in p qs) → IsTrue (is_in p ps)) → OfFirsts P ps w → OfFirsts P qs w

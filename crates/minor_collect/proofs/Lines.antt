@@ -36,7 +36,7 @@ use Rattle.heap_parts.proofs.PlaceLaws.{named-by, settled-old}
 use Rattle.minor_collect.specs.Carried.{Moved}
 use Rattle.minor_collect.specs.Midway.{Midway, Changing, Owes, is_lasting}
 use Rattle.minor_collect.specs.Lines.{weaks_left, is_gone_pointer, loses_target, TellsLoss}
-use Rattle.minor_collect.proofs.Counts.{count_either}
+use Rattle.store_model.proofs.Counts.{count_either}
 use Rattle.minor_collect.proofs.Ended.{OwesNone}
 use Rattle.minor_collect.proofs.EndBirths.{births_named, settled_end, rise_part}
 use Rattle.minor_collect.proofs.EndLinks.{ends_same}

@@ -28,7 +28,7 @@ use Rattle.minor_collect.specs.Ending.{Completes, ended_parts, remaining}
 use Rattle.minor_collect.proofs.Ended.{OwesNone}
 use Rattle.minor_collect.proofs.EndOrder.{minor_queued}
 use Rattle.minor_collect.proofs.EndStands.{minor_stands, after-order, objects, old-stay, tells}
-use Rattle.minor_collect.proofs.EndCollected.{all_pinned}
+use Rattle.store_model.proofs.MinorSound.{all_pinned}
 
 -- homes of those alone that stay
 reserved-remaining : (types : Table TypeInfo) (w : ℕ → ℕ) (home : ℕ → Option ℕ) (name : ℕ → ℕ) (passes : ℕ → Bool) (ps : List ℕ)

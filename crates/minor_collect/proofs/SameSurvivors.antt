@@ -19,7 +19,7 @@ use Rattle.store_model.specs.Reach.{Tells, is_root, is_registered}
 use Rattle.store_model.specs.MarkingOrder.{IsItem, YoungHeld}
 use Rattle.store_model.specs.MinorCollection.{is_unsettled, is_entry, has_settled_referrer, SurvivesBy, Survives}
 use Rattle.minor_collect.specs.Entries.{referents_where, has_remembered_referrer}
-use Rattle.minor_collect.proofs.Survives.{referrer-found}
+use Rattle.store_model.proofs.Survives.{referrer-found}
 
 -- a referent is in some item
 pub record InItem (refs : List (Option ℕ)) (y : ℕ) : Type 0 where

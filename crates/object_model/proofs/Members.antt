@@ -1,7 +1,7 @@
 -- Tests joined, and members of lists of numbers.
 use Rattle.std.specs.List.{cons_option}
 use Rattle.std.proofs.Common.{◌≡◌, ℕ, ◌⊎◌, Bool, true, false, IsTrue, List, [], ◌∷◌, ◌++◌, map, Option, refl, sym, ap, ◌∙◌, subst, inl, inr, arith, ◌==◌, ◌||◌, ap₂, filter}
-use Rattle.std.specs.Prelude.{◌&&◌, ◌||◌, ◌==◌, filter, filter_map, IsFalse}
+use Rattle.std.specs.Prelude.{◌&&◌, ◌||◌, ◌==◌, filter, filter_map, IsFalse, not}
 use Rattle.std.proofs.lemmas.Bool.{cases_Bool, eq-eqb}
 use Rattle.std.proofs.lemmas.Bool.Decides.{eqb_tells}
 use Rattle.object_model.specs.Sets.{is_in}
@@ -166,3 +166,7 @@ is_in-named name p (q ∷ places) t = elim (is_in-cases p q places t) [
   | inl e ↦ let P : ℕ → Type 0 = λ k. IsTrue (is_in (name k) (name q ∷ map name places)) in subst P (sym e) (is_in-head (name q) (map name places))
   | inr u ↦ is_in-tail (name p) (name q) (map name places) (is_in-named name p places u)
 ]
+
+pub not-true : (b : Bool) → not b ≡ true → b ≡ false
+not-true true e = absurd (let no : ⊥ = cc in no)
+not-true false e = refl

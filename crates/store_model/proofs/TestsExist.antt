@@ -1,30 +1,31 @@
 -- Each store has tests of what is reached, retained and saved, and of which births reach which.
-use Rattle.std.proofs.Common.{ℕ, Bool, IsTrue, List, [], ◌∷◌, ◌++◌, map, refl, sym, subst, inl, inr}
+use Rattle.std.proofs.Common.{ℕ, Bool, IsTrue, List, ◌++◌, map, refl, subst, inl, inr}
 use Rattle.std.specs.Prelude.{◌==◌, ◌&&◌}
 use Rattle.std.proofs.lemmas.Bool.{eq-eqb}
 use Rattle.std.proofs.lemmas.Bool.Decides.{eqb_tells}
-use Rattle.object_model.proofs.Members.{is_in-head, is_in-tail, and_first, and_second, and_both}
+use Rattle.object_model.proofs.Members.{and_first, and_second, and_both}
 use Rattle.object_model.specs.declared.settings.Settings.{Settings}
 use Rattle.object_model.specs.Object.{Object, object_at}
 use Rattle.store_model.specs.Store.{Store}
 use Rattle.object_model.specs.Sets.{is_in}
 use Rattle.store_model.specs.Roots.{is_kept, roots_of, registered_births, referents_in}
-use Rattle.store_model.specs.Reach.{Leads, Reaches, refers, is_registered}
+use Rattle.store_model.specs.Reach.{Leads, Reaches, refers, is_registered, Tells, LeadsTo}
 use Rattle.store_model.specs.Marking.{is_dying, is_white}
 use Rattle.store_model.specs.Sound.{IsSound}
-use Rattle.heap_parts.proofs.LedTests.{LedTest, led_test}
+use Rattle.store_model.proofs.Rounds.{led_test, led_tells, kept-births}
 
-pub kept_birth : (kept : List Object) (x : ℕ) → IsTrue (is_kept kept x) → IsTrue (is_in x (map (λ o. o.birth) kept))
-kept_birth [] x t = absurd (let no : ⊥ = cc in no)
-kept_birth (o ∷ kept) x t = elim (eqb_tells x o.birth) [
-  | inl e ↦ subst (λ (k : ℕ). IsTrue (is_in k (o.birth ∷ map (λ (o : Object). o.birth) kept))) (sym e.1) (is_in-head o.birth (map (λ (o : Object). o.birth) kept))
-  | inr e ↦ is_in-tail x o.birth (map (λ (o : Object). o.birth) kept) (kept_birth kept x (rw e.0 at t))
-]
+-- a test of what starts lead to
+pub record LedTest (start : ℕ → Bool) (step : ℕ → ℕ → Bool) : Type 0 where
+  pub test : ℕ → Bool
+  pub tells : Tells test (LeadsTo start step)
+
+led : (start : ℕ → Bool) (step : ℕ → ℕ → Bool) (all : List ℕ) → ((x : ℕ) → IsTrue (start x) → IsTrue (is_in x all)) → ((x y : ℕ) → IsTrue (step x y) → IsTrue (is_in y all)) → LedTest start step
+led start step all starts steps = record { test = led_test start step all; tells = led_tells start step all starts steps }
 
 -- what starts that are kept lead to by references
 pub kept_test : (kept : List Object) (start : ℕ → Bool) → ((x : ℕ) → IsTrue (start x) → IsTrue (is_kept kept x)) → LedTest start (refers kept)
-kept_test kept start there = led_test start (refers kept) (map (λ o. o.birth) kept) (λ x t. kept_birth kept x (there x t))
-    (λ x y t. kept_birth kept y (and_second (is_in y (referents_in (object_at kept x))) (is_kept kept y) t))
+kept_test kept start there = led start (refers kept) (map (λ o. o.birth) kept) (λ x t. kept-births kept x (there x t))
+    (λ x y t. kept-births kept y (and_second (is_in y (referents_in (object_at kept x))) (is_kept kept y) t))
 
 pub reached_test : (store : Store) → LedTest (λ x. is_in x (roots_of store) && is_kept store.kept x) (refers store.kept)
 reached_test store = kept_test store.kept (λ x. is_in x (roots_of store) && is_kept store.kept x) (λ x t. and_second (is_in x (roots_of store)) (is_kept store.kept x) t)

@@ -15,8 +15,8 @@ use Rattle.store_model.specs.Reach.{Tells, Leads, Reaches, refers, is_registered
 use Rattle.store_model.specs.Marking.{is_white, is_dying, stands_before, IsChosen}
 use Rattle.store_model.specs.Sound.{IsSound, waiting_births}
 use Rattle.store_model.proofs.Times.{once_first}
-use Rattle.heap_phases.proofs.ChosenPasses.{candidates, unreached_later, is_before, AreOnce, IsFirst, passes_find, passes_all}
-use Rattle.heap_phases.proofs.TestsExist.{reaches, reaches_tells}
+use Rattle.store_model.proofs.ChosenPasses.{candidates, unreached_later, is_before, AreOnce, IsFirst, passes_find, passes_all}
+use Rattle.store_model.proofs.TestsExist.{reaches, reaches_tells}
 
 leads-join : (step : ℕ → ℕ → Bool) (x : ℕ) (one : List ℕ) (y : ℕ) (two : List ℕ) (z : ℕ) → Leads step x one y → Leads step y two z → Leads step x (one ++ two) z
 leads-join step x [] y two z a b = subst (λ (k : ℕ). Leads step k two z) (sym a) b

@@ -1,12 +1,13 @@
 -- Visits keep marking in order.
 use Rattle.std.specs.Prelude.{ℕ, Bool, ◌==◌, IsTrue, IsFalse, List, [], ◌∷◌, ◌++◌}
-use Rattle.std.proofs.Common.{sym, inl, inr, subst}
+use Rattle.std.proofs.Common.{sym, inl, inr, subst, ⊎_elim}
 use Rattle.object_model.specs.Sets.{is_in}
 use Rattle.object_model.specs.Object.{Object, object_at}
 use Rattle.store_model.specs.Roots.{referents_in}
 use Rattle.store_model.specs.Sound.{AreKept, AreNoneOf, AreCutOff}
 use Rattle.store_model.specs.MarkingOrder.{IsItem, IsInOrder, is_known, VisitsQueued, RootsQueued, settled_of, Visits, NoVisit, Passed, Visit}
-use Rattle.heap_phases.proofs.MarkSets.{⊎_elim, decide, equal, only, in-one, in-filter, from-filter, item-referent}
+use Rattle.store_model.proofs.MarkSets.{equal, only, in-one, in-filter, from-filter, item-referent}
+use Rattle.std.proofs.lemmas.Bool.{cases_Bool}
 use Rattle.object_model.proofs.Members.{or_cases, or_first, or_second, not_both, in-left, in-right, in-either}
 
 -- what holds all through a marking step, but for what never changes in it
@@ -58,7 +59,7 @@ module _ (kept : List Object) (settled : List ℕ) (remembered : ℕ → ℕ →
         owed = λ z i y w e. ⊎_elim
             (λ t. inl (queued z i y w e t))
             (λ u. inr (⊎_elim (λ t. absurd (not_both (is_in y settled) t u)) (λ h. h) (s.order.young z i y (visited_settled z w) e)))
-            (decide (is_in y settled));
+            (cases_Bool (is_in y settled));
         held_settled = s.order.held_settled;
         gray_settled = λ y g. ⊎_elim
             (λ r. s.order.gray_settled y (or_second (x == y) (is_in y rest) r))

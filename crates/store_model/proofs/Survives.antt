@@ -10,9 +10,8 @@ use Rattle.store_model.specs.Store.{Store, is_settled}
 use Rattle.object_model.specs.Sets.{is_in}
 use Rattle.store_model.specs.Roots.{is_kept, roots_of, registered_births, referents_in}
 use Rattle.store_model.specs.Reach.{Tells, refers, births_where, is_root, is_registered}
-use Rattle.store_model.specs.MinorCollection.{is_unsettled, is_entry, refers_unsettled, has_settled_referrer, Survives}
+use Rattle.store_model.specs.MinorCollection.{vanishes, is_unsettled, is_entry, refers_unsettled, has_settled_referrer, Survives}
 use Rattle.store_model.proofs.Rounds.{LeadsTo-start, LeadsTo-step}
-use Rattle.minor_collect.specs.Ending.{stays}
 
 pub stay-settled : (kept settled survives : Bool) → IsTrue settled → IsTrue (not ((kept && not settled) && not survives))
 stay-settled true true survives t = refl
@@ -61,27 +60,27 @@ referrer-found store x y (Some o) e t s =
     (and_both (is_settled store.settled o.birth) (is_in y (referents o)) (subst (λ (b : ℕ). IsTrue (is_settled store.settled b)) (sym (found-birth store.kept x o e)) s) t)
 
 module _ (store : Store) (survives : ℕ → Bool) (tells : Tells survives (Survives store)) where
-  decide-settled : (x : ℕ) → (IsTrue (is_in x store.settled) → IsTrue (stays store survives x)) → (is_in x store.settled ≡ false → IsTrue (stays store survives x)) → IsTrue (stays store survives x)
+  decide-settled : (x : ℕ) → (IsTrue (is_in x store.settled) → IsTrue (not (vanishes store survives x))) → (is_in x store.settled ≡ false → IsTrue (not (vanishes store survives x))) → IsTrue (not (vanishes store survives x))
   decide-settled x a b = elim (cases_Bool (is_in x store.settled)) [ inl t ↦ a t | inr f ↦ b f ]
 
-  pub settled_stays : (x : ℕ) → IsTrue (is_in x store.settled) → IsTrue (stays store survives x)
+  pub settled_stays : (x : ℕ) → IsTrue (is_in x store.settled) → IsTrue (not (vanishes store survives x))
   settled_stays x t = stay-settled (is_kept store.kept x) (is_in x store.settled) (survives x) t
 
-  entry-stays : (x : ℕ) → IsTrue (is_kept store.kept x) → IsTrue (is_root store x || (is_registered store x || has_settled_referrer store x)) → IsTrue (stays store survives x)
+  entry-stays : (x : ℕ) → IsTrue (is_kept store.kept x) → IsTrue (is_root store x || (is_registered store x || has_settled_referrer store x)) → IsTrue (not (vanishes store survives x))
   entry-stays x k t = decide-settled x (λ s. settled_stays x s)
       (λ f. let unsettled : IsTrue (is_unsettled store x) = rw (k, f) refl in
       stay-survives (is_unsettled store x) (survives x)
       ((tells x).1 (LeadsTo-start (is_entry store (has_settled_referrer store)) (refers_unsettled store) x
       (and_both (is_unsettled store x) _ unsettled t))))
 
-  pub root_stays : (x : ℕ) → IsTrue (is_kept store.kept x) → IsTrue (is_in x (roots_of store)) → IsTrue (stays store survives x)
+  pub root_stays : (x : ℕ) → IsTrue (is_kept store.kept x) → IsTrue (is_in x (roots_of store)) → IsTrue (not (vanishes store survives x))
   root_stays x k t = entry-stays x k (or_first (is_root store x) (is_registered store x || has_settled_referrer store x) t)
 
-  pub registered_stays : (x : ℕ) → IsTrue (is_kept store.kept x) → IsTrue (is_in x (registered_births store)) → IsTrue (stays store survives x)
+  pub registered_stays : (x : ℕ) → IsTrue (is_kept store.kept x) → IsTrue (is_in x (registered_births store)) → IsTrue (not (vanishes store survives x))
   registered_stays x k t = entry-stays x k (or_second (is_root store x) (is_registered store x || has_settled_referrer store x) (or_first (is_registered store x) (has_settled_referrer store x) t))
 
   -- what a staying object refers to stays
-  pub referent_stays : (x y : ℕ) → IsTrue (is_kept store.kept y) → IsTrue (stays store survives x) → IsTrue (is_in y (referents_in (object_at store.kept x))) → IsTrue (stays store survives y)
+  pub referent_stays : (x y : ℕ) → IsTrue (is_kept store.kept y) → IsTrue (not (vanishes store survives x)) → IsTrue (is_in y (referents_in (object_at store.kept x))) → IsTrue (not (vanishes store survives y))
   referent_stays x y k s t = elim (stay-either (is_kept store.kept x) (is_in x store.settled) (survives x) (referent-kept (object_at store.kept x) y t) s) [
     | inl settled ↦ entry-stays y k (or_second (is_root store y) (is_registered store y || has_settled_referrer store y)
         (or_second (is_registered store y) (has_settled_referrer store y) (referrer-found store x y (object_at store.kept x) refl t settled)))

@@ -1,5 +1,5 @@
 -- The end of marking, over the store: what stays, and what a doomed object is.
-use Rattle.std.proofs.Common.{◌≡◌, ℕ, ◌⊎◌, Bool, true, false, IsTrue, List, [], ◌∷◌, ◌++◌, Option, Some, None, refl, sym, subst, inl, inr}
+use Rattle.std.proofs.Common.{◌≡◌, ℕ, ◌⊎◌, Bool, true, false, IsTrue, List, [], Option, Some, None, refl, subst, inl, inr}
 use Rattle.std.specs.Prelude.{IsFalse, not, ◌&&◌, is_some, filter_map}
 use Rattle.std.proofs.lemmas.Bool.{cases_Bool}
 use Rattle.object_model.proofs.Members.{is_in-nil, in-left, in-right, and_first, and_second, and_both, not_both}
@@ -9,29 +9,11 @@ use Rattle.store_model.specs.Store.{Store, is_settled}
 use Rattle.object_model.specs.Sets.{is_in}
 use Rattle.object_model.specs.Fields.{refs_of}
 use Rattle.store_model.specs.Roots.{pinned_births, is_kept, roots_of, registered_births, referents_in}
-use Rattle.store_model.specs.Reach.{Tells, Leads, LeadsTo, refers, is_registered, IsReached}
+use Rattle.store_model.specs.Reach.{Tells, refers, is_registered, IsReached}
 use Rattle.store_model.specs.Marking.{IsMarked, IsSaved, is_white, is_dying, is_condemned}
 use Rattle.store_model.specs.Sound.{IsSound, AreNoneOf}
-use Rattle.heap_parts.specs.Collects.{AreAllPinned}
-
--- one path after another
-leads-on : (step : ℕ → ℕ → Bool) (x : ℕ) (path : List ℕ) (y z : ℕ) → Leads step x path y → IsTrue (step y z) → Leads step x (path ++ z ∷ []) z
-leads-on step x [] y z a t = (subst (λ (w : ℕ). IsTrue (step w z)) (sym a) t, refl)
-leads-on step x (w ∷ path) y z a t = (a.0, leads-on step w path y z a.1 t)
-
-pub leads_start : (start : ℕ → Bool) (step : ℕ → ℕ → Bool) (x : ℕ) → IsTrue (start x) → LeadsTo start step x
-leads_start start step x t = (x, t, [], refl)
-
-pub leads_step : (start : ℕ → Bool) (step : ℕ → ℕ → Bool) (x y : ℕ) → LeadsTo start step x → IsTrue (step x y) → LeadsTo start step y
-leads_step start step x y l t = (l.0, l.1, l.2 ++ y ∷ [], leads-on step l.0 l.2 x y l.3 t)
-
-leads-keeps : (step : ℕ → ℕ → Bool) (P : ℕ → Type 0) → ((x y : ℕ) → P x → IsTrue (step x y) → P y) → (x : ℕ) (path : List ℕ) (y : ℕ) → P x → Leads step x path y → P y
-leads-keeps step P keeps x [] y p a = subst P a p
-leads-keeps step P keeps x (w ∷ path) y p a = leads-keeps step P keeps w path y (keeps x w p a.0) a.1
-
-pub leads_least : (start : ℕ → Bool) (step : ℕ → ℕ → Bool) (P : ℕ → Type 0) → ((x : ℕ) → IsTrue (start x) → P x)
-    → ((x y : ℕ) → P x → IsTrue (step x y) → P y) → (y : ℕ) → LeadsTo start step y → P y
-leads_least start step P starts steps y l = leads-keeps step P steps l.0 l.2 y (starts l.0 l.1) l.3
+use Rattle.store_model.specs.MinorCollection.{AreAllPinned}
+use Rattle.store_model.proofs.Rounds.{LeadsTo-start, LeadsTo-step, LeadsTo-least}
 
 -- what holds of a condemned object by cases
 condemned-no : (white saved : Bool) → (white ≡ false) ⊎ (saved ≡ true) → (white && not saved) ≡ false
@@ -97,7 +79,7 @@ module _ (settings : Settings) (store : Store) (sound : IsSound settings store) 
           ]
           | inr not_visited ↦
               let white : is_white store x ≡ true = white-yes (is_settled store.settled x) (is_in x store.visited) settled not_visited in
-              saved_stays y (leads_step (is_dying store) (refers store.kept) x y ((tells x).0 (saved-or (is_white store x) (saved x) stays white)) step)
+              saved_stays y (LeadsTo-step (is_dying store) (refers store.kept) x y ((tells x).0 (saved-or (is_white store x) (saved x) stays white)) step)
         ]
         | inr unsettled ↦ absurd (referents-some (object_at store.kept x) y t (sound.pins.no_references x (pinned x (kept_of store.kept x y t) unsettled)))
       ]
@@ -105,7 +87,7 @@ module _ (settings : Settings) (store : Store) (sound : IsSound settings store) 
   -- a root stays, and a registered object
   pub root_stays : (x : ℕ) → IsTrue (is_in x (roots_of store)) → gone x ≡ false
   root_stays x t =
-      let reached : IsReached store x = leads_start (λ z. is_in z (roots_of store) && is_kept store.kept z) (refers store.kept) x
+      let reached : IsReached store x = LeadsTo-start (λ z. is_in z (roots_of store) && is_kept store.kept z) (refers store.kept) x
       (and_both (is_in x (roots_of store)) (is_kept store.kept x) t (sound.roots x t)) in
       elim (cases_Bool (is_settled store.settled x)) [
         | inl s ↦ visited_stays x (marked.reached x reached s)
@@ -114,13 +96,13 @@ module _ (settings : Settings) (store : Store) (sound : IsSound settings store) 
 
   pub registered_stays : (x : ℕ) → IsTrue (is_in x (registered_births store)) → gone x ≡ false
   registered_stays x t = elim (cases_Bool (is_white store x)) [
-    | inl white ↦ saved_stays x (leads_start (is_dying store) (refers store.kept) x (and_both (is_registered store x) (is_white store x) t white))
+    | inl white ↦ saved_stays x (LeadsTo-start (is_dying store) (refers store.kept) x (and_both (is_registered store x) (is_white store x) t white))
     | inr black ↦ black_stays x black
   ]
 
   -- what is saved was not doomed
   saved-not-doomed : (x : ℕ) → IsSaved store x → IsFalse (is_in x store.doomed)
-  saved-not-doomed x l = (leads_least (is_dying store) (refers store.kept) (λ y. IsTrue (is_kept store.kept y) × IsFalse (is_in y store.doomed))
+  saved-not-doomed x l = (LeadsTo-least (is_dying store) (refers store.kept) (λ y. IsTrue (is_kept store.kept y) × IsFalse (is_in y store.doomed))
       (λ h d. let r : IsTrue (is_registered store h) = and_first (is_registered store h) (is_white store h) d in (sound.registered h r, sound.registered_retained h r))
       (λ h y p r. (
         and_second (is_in y (referents_in (object_at store.kept h))) (is_kept store.kept y) r,

@@ -5,7 +5,7 @@ use Rattle.std.specs.List.{IsDistinct, AllByRecursion, cons_option}
 use Rattle.std.proofs.lemmas.Bool.{cases_Bool}
 use Rattle.type_table.specs.Table.{Table}
 use Rattle.type_table.proofs.TableLaws.{KeysRise-entries_where}
-use Rattle.object_model.proofs.Members.{is_in-head, is_in-tail, is_in-cases, is_in-nil, and_both, and_first, and_second, in-either, in-left, in-right, false-in}
+use Rattle.object_model.proofs.Members.{is_in-head, is_in-tail, is_in-cases, is_in-nil, and_both, and_first, and_second, in-either, in-left, in-right, false-in, not-in}
 use Rattle.text_model.specs.declared.line.Fate.{Fate}
 use Rattle.text_model.specs.declared.line.Fate.TheVariants as fate
 use Rattle.text_model.specs.declared.line.Phase.{Phase}
@@ -18,11 +18,12 @@ use Rattle.store_model.specs.Links.{entry_after, left_by, fate_of}
 use Rattle.object_model.specs.Sets.{is_in}
 use Rattle.store_model.specs.Roots.{is_kept, pinned_births, roots_of, referents_in, target_in}
 use Rattle.store_model.specs.Reach.{Tells}
-use Rattle.store_model.specs.MinorCollection.{Survives, vanishes, settles, after_minor, clear_target, left_target}
+use Rattle.store_model.specs.MinorCollection.{Survives, vanishes, settles, after_minor, clear_target, left_target, AreAllPinned}
 use Rattle.store_model.specs.Sound.{IsSound, IsPhaseSound, AreCutOff, AreGone, AreLinksSound}
-use Rattle.minor_collect.proofs.EndHomes.{found_where}
-use Rattle.minor_collect.proofs.StoreAfter.{left_objects, is_kept_left, refs_left, refs_gone, referents_left, referents_gone, target_left, target_gone}
-use Rattle.minor_collect.proofs.Survives.{root_stays, registered_stays, referent_stays, in_where, where_in}
+use Rattle.store_model.proofs.Homes.{found_where}
+use Rattle.store_model.proofs.StoreAfter.{left_objects, is_kept_left, refs_left, refs_gone, referents_left, referents_gone, target_left, target_gone}
+use Rattle.store_model.proofs.CutSound.{cut_sound}
+use Rattle.store_model.proofs.Survives.{root_stays, registered_stays, referent_stays, in_where, where_in}
 
 -- parts of lists that differ
 all-part : {X : Type 0} → (P : ℕ → Type 0) (f : X → ℕ) (test : X → Bool) (xs : List X) (ys : List ℕ) → AllByRecursion P (map f xs ++ ys) → AllByRecursion P (map f (filter test xs) ++ ys)
@@ -251,3 +252,27 @@ module _ (settings : Settings) (store : Store) (survives : ℕ → Bool) (tells 
 
       birth-stays : (x : ℕ) → IsTrue (passes x) → IsTrue (is_in x (map (λ (o : Object). o.birth) store.kept)) → IsTrue (is_in x (map (λ (o : Object). o.birth) (after_minor store survives).kept))
       birth-stays x p t = subst (λ (l : List ℕ). IsTrue (is_in x l)) (sym (births-left store.kept (λ z. not (vanishes store survives z)) (vanishes store survives))) (birth-in store.kept x p t)
+
+-- and the links stay sound
+pub minor_links_sound : (store : Store) (survives : ℕ → Bool) → AreLinksSound store.kept store.structs store.dead
+    → AreLinksSound (after_minor store survives).kept (after_minor store survives).structs (after_minor store survives).dead
+minor_links_sound store survives l = cut_sound (vanishes store survives) store.kept (after_minor store survives).kept store.structs store.dead
+    (λ x stays k. is_kept_left store.kept (λ y. not (vanishes store survives y)) (vanishes store survives) x
+    ∙ and_both (not (vanishes store survives x)) (is_kept store.kept x) (ap not stays) k) l
+
+settles-or : (kept settled survives pinned : Bool) → IsTrue kept → IsTrue (not ((kept && not settled) && not survives)) → pinned ≡ false → IsTrue (settled || (not settled && (survives && not pinned)))
+settles-or true true survives pinned k t e = refl
+settles-or true false true pinned k t e = rw e refl
+settles-or true false false pinned k t e = absurd (let no : ⊥ = cc in no)
+settles-or false settled survives pinned k t e = absurd (let no : ⊥ = cc in no)
+
+pub all_pinned : (store : Store) (survives : ℕ → Bool) → AreAllPinned (after_minor store survives)
+all_pinned store survives x k f = elim (cases_Bool (is_in x (pinned_births store))) [
+  | inl t ↦ t
+  | inr e ↦
+      let both : IsTrue (not (vanishes store survives x) && is_kept store.kept x) = sym (is_kept_left store.kept (λ y. not (vanishes store survives y)) (vanishes store survives) x) ∙ k in
+      let stays = and_first (not (vanishes store survives x)) (is_kept store.kept x) both in
+      let there = and_second (not (vanishes store survives x)) (is_kept store.kept x) both in
+      absurd (not-in x (after_minor store survives).settled f (where_in store.kept (λ y. is_in y store.settled || settles store survives y) x
+      there (settles-or (is_kept store.kept x) (is_in x store.settled) (survives x) (is_in x (pinned_births store)) there stays e)))
+]

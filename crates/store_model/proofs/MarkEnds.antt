@@ -1,6 +1,6 @@
 -- The start of marking, and its end.
 use Rattle.std.specs.Prelude.{◌≡◌, ℕ, Bool, true, false, ◌&&◌, ◌||◌, IsTrue, IsFalse, is_some, List, [], Option, Some, None, refl, slice_get}
-use Rattle.std.proofs.Common.{arith, subst}
+use Rattle.std.proofs.Common.{arith, subst, ⊎_elim}
 use Rattle.object_model.specs.Sets.{is_in}
 use Rattle.object_model.specs.Object.{Object, object_at}
 use Rattle.store_model.specs.Store.{Store}
@@ -10,10 +10,11 @@ use Rattle.object_model.specs.Fields.{refs_of}
 use Rattle.store_model.specs.Sound.{AreKept, AreNoneOf, AreCutOff}
 use Rattle.store_model.specs.Marking.{IsMarked}
 use Rattle.store_model.specs.MarkingOrder.{IsItem, YoungHeld, HeldSettled, IsInOrder, VisitsQueued, RootsQueued, settled_of, Visits}
-use Rattle.heap_phases.proofs.MarkSets.{⊎_elim, false≢true, decide, referent-item, from-filter}
+use Rattle.store_model.proofs.MarkSets.{referent-item, from-filter}
+use Rattle.std.proofs.lemmas.Bool.{cases_Bool, false≢true}
 use Rattle.object_model.proofs.Members.{and_first}
-use Rattle.heap_phases.proofs.EndStore.{leads_least as LeadsTo-least}
-use Rattle.heap_phases.proofs.MarkVisit.{StepOrder, order-visits, roots-visits, order-roots}
+use Rattle.store_model.proofs.Rounds.{LeadsTo-least}
+use Rattle.store_model.proofs.MarkVisit.{order-visits, roots-visits, order-roots, StepOrder}
 
 none : {X : Type 0} (x : ℕ) → IsTrue (is_in x []) → X
 none x h = absurd (false≢true h)
@@ -70,7 +71,7 @@ module _ (kept : List Object) (settled roots visited : List ℕ) (queued : Visit
       ⊎_elim
       (λ s. closed-end x y (p s) r t)
       (λ u. let f : (i : ℕ) × IsItem kept x i y = referent-item kept x y m in absurd (unsettled_empty x f.0 y (kept-referrer kept x y m) u f.1))
-      (decide (is_in x settled)))
+      (cases_Bool (is_in x settled)))
 
 -- what is unsettled is pinned, and what is pinned has no references
 pub pinned-empty : (kept : List Object) (settled pinned : List ℕ) → ((x : ℕ) → IsTrue (is_kept kept x) → IsFalse (is_in x settled) → IsTrue (is_in x pinned))

@@ -1,15 +1,16 @@
 -- What visits visit may be visited.
 use Rattle.std.specs.List.{list_all, IsDistinct}
 use Rattle.std.specs.Prelude.{◌≡◌, ℕ, Bool, true, false, not, ◌&&◌, ◌==◌, IsTrue, IsFalse, List, [], ◌∷◌, ◌++◌, refl, nat_eq}
-use Rattle.std.proofs.Common.{sym, ◌∙◌, subst, append_assoc, append-nil}
+use Rattle.std.proofs.Common.{sym, ◌∙◌, subst, append_assoc, append-nil, ⊎_elim}
 use Rattle.object_model.specs.Sets.{is_in}
 use Rattle.object_model.specs.Object.{Object, object_at}
 use Rattle.store_model.specs.Roots.{referents_in}
 use Rattle.store_model.specs.Sound.{AreKept, AreCutOff}
 use Rattle.store_model.specs.MarkingOrder.{settled_of, Visits, NoVisit, Passed, Visit}
-use Rattle.heap_phases.proofs.MarkSets.{⊎_elim, false≢true, is_false, equal, in-one}
+use Rattle.store_model.proofs.MarkSets.{is_false, equal, in-one}
+use Rattle.std.proofs.lemmas.Bool.{false≢true}
 use Rattle.object_model.proofs.Members.{and_both, or_cases, not_both, in-left, in-right}
-use Rattle.heap_phases.proofs.MarkVisit.{StepOrder, order-passed, order-visited}
+use Rattle.store_model.proofs.MarkVisit.{order-visited, StepOrder, order-passed}
 use Rattle.object_model.proofs.Distinct.{all_differ}
 
 module _ (kept : List Object) (settled : List ℕ) (remembered : ℕ → ℕ → Bool) (unreached : List ℕ) (settled_kept : AreKept kept settled) (cut_off : AreCutOff kept unreached) where

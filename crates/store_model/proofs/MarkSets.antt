@@ -1,5 +1,5 @@
 -- Members of lists, and tests joined: for the laws of marking.
-use Rattle.std.proofs.Common.{◌≡◌, ℕ, zero, suc, ◌⊎◌, Bool, true, false, IsTrue, List, [], ◌∷◌, Option, Some, None, refl, sym, ap, subst, inl, inr, arith}
+use Rattle.std.proofs.Common.{◌≡◌, ℕ, zero, suc, Bool, true, false, IsTrue, List, [], ◌∷◌, Option, Some, None, refl, sym, ap, subst, arith, ⊎_elim}
 use Rattle.std.specs.Prelude.{IsFalse, ◌==◌, filter, filter_map, slice_get}
 use Rattle.std.proofs.lemmas.Bool.Decides.{nat_tests}
 use Rattle.object_model.proofs.Members.{is_in-head, is_in-tail, is_in-cases, is_in-nil, filter-part, filter-member}
@@ -8,18 +8,6 @@ use Rattle.object_model.specs.Sets.{is_in}
 use Rattle.object_model.specs.Fields.{refs_of}
 use Rattle.store_model.specs.Roots.{referents_in}
 use Rattle.store_model.specs.MarkingOrder.{IsItem}
-use Rattle.object_model.proofs.Members.{in-left, in-right, in-either, or_cases, or_first, or_second, and_first, and_second, and_both, not_both}
-
-pub false≢true : false ≡ true → ⊥
-false≢true e = let no : ⊥ = cc in no
-
-pub ⊎_elim : {A B C : Type 0} → (A → C) → (B → C) → A ⊎ B → C
-⊎_elim f g (inl a) = f a
-⊎_elim f g (inr b) = g b
-
-pub decide : (b : Bool) → IsTrue b ⊎ IsFalse b
-decide true = inl refl
-decide false = inr refl
 
 pub is_false : (b : Bool) → (IsTrue b → ⊥) → IsFalse b
 is_false true h = absurd (h refl)

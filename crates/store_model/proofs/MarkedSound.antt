@@ -11,7 +11,7 @@ use Rattle.std.proofs.lemmas.Map.Keys.{IsDistinct-IsPermutation}
 use Rattle.std.proofs.lemmas.Nat.{le-div}
 use Rattle.std.proofs.lemmas.Simd.{map-map}
 use Rattle.std.proofs.Math.Nat.{div-mul-le_self}
-use Rattle.object_model.proofs.Members.{is_in-head, is_in-tail, is_in-cases, is_in-nil, in-left, in-right, in-either, and_first, and_second, and_both, not_both}
+use Rattle.object_model.proofs.Members.{is_in-head, is_in-tail, is_in-cases, is_in-nil, in-left, in-right, in-either, and_first, and_second, and_both, not_both, not-true}
 use Rattle.object_model.specs.declared.settings.Settings.{Settings}
 use Rattle.text_model.specs.declared.line.Phase.{Phase}
 use Rattle.text_model.specs.declared.line.Phase.TheVariants.{Marking}
@@ -26,10 +26,10 @@ use Rattle.store_model.specs.Roots.{pinned_births, is_kept, roots_of, registered
 use Rattle.store_model.specs.Reach.{Tells, objects_where}
 use Rattle.store_model.specs.Marking.{IsMarked, IsSaved, IsChosen, is_white, is_dying, is_condemned, after_marking}
 use Rattle.store_model.specs.Sound.{IsSound, IsPhaseSound, IsMarkingSound, AreCutOff, AreGone, AreLinksSound, births_in, waiting_births}
-use Rattle.heap_parts.specs.Collects.{AreAllPinned}
+use Rattle.store_model.specs.MinorCollection.{AreAllPinned}
 use Rattle.store_model.proofs.Times.{times, times_append, times_parts, once_less}
-use Rattle.heap_phases.proofs.EndStore.{stays_refers, root_stays, registered_stays, saved_stays, black_stays, doomed_gone, leads_start}
-use Rattle.heap_parts.proofs.Filters.{not-true}
+use Rattle.store_model.proofs.EndOfMarking.{stays_refers, root_stays, registered_stays, saved_stays, black_stays, doomed_gone}
+use Rattle.store_model.proofs.Rounds.{LeadsTo-start}
 use Rattle.store_model.proofs.After.{kept_left, refs_left, was_kept, was_referent, was_target, no_target_left, birth_where, in_births_where}
 
 -- entries that pass a test
@@ -109,7 +109,7 @@ module _ (settings : Settings) (store : Store) (sound : IsSound settings store) 
   chosen_dying x e = ((tells_chosen x).0 e).0
 
   pub chosen_stays : (x : ℕ) → chosen x ≡ true → gone x ≡ false
-  chosen_stays x e = saved_stays settings store sound pinned marked saved tells x (leads_start (is_dying store) _ x (chosen_dying x e))
+  chosen_stays x e = saved_stays settings store sound pinned marked saved tells x (LeadsTo-start (is_dying store) _ x (chosen_dying x e))
 
   -- a root of the later store is one of the store, or was registered
   pub root_before : (x : ℕ) → IsTrue (is_in x (roots_of new)) → IsTrue (is_in x (roots_of store)) ⊎ (IsTrue (is_in x (registered_births store)) × (chosen x ≡ true))

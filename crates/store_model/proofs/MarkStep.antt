@@ -15,10 +15,10 @@ use Rattle.store_model.specs.Sound.{AreKept, AreNoneOf, AreCutOff}
 use Rattle.store_model.specs.Marking.{IsMarked, MarkingStep, GoesOn, EndOfMarking, visited_words, with_visited}
 use Rattle.store_model.specs.MarkingOrder.{settled_of, Visits, IsItem, is_known}
 use Rattle.object_model.proofs.Members.{and_first, and_second, and_both, in-left, in-right}
-use Rattle.heap_phases.proofs.MarkVisit.{StepOrder, order-visits, order-roots}
-use Rattle.heap_phases.proofs.MarkVisitList.{visited-all, unvisited-all, distinct-visits, allowed-visits}
+use Rattle.store_model.proofs.MarkVisit.{order-visits, order-roots, StepOrder}
+use Rattle.store_model.proofs.MarkVisitList.{visited-all, unvisited-all, distinct-visits, allowed-visits}
 use Rattle.object_model.proofs.Distinct.{distinct_append}
-use Rattle.heap_phases.proofs.MarkEnds.{marked, last-step}
+use Rattle.store_model.proofs.MarkEnds.{marked, last-step}
 
 all-append : (test : ℕ → Bool) (xs ys : List ℕ) → IsTrue (list_all test xs) → IsTrue (list_all test ys) → IsTrue (list_all test (xs ++ ys))
 all-append test [] ys a b = b

@@ -1,11 +1,11 @@
 -- Laws of visits that a loop and its caller want.
 use Rattle.std.specs.Prelude.{ℕ, ◌==◌, ◌⊎◌, IsTrue, List, [], ◌∷◌, ◌++◌}
-use Rattle.std.proofs.Common.{inl, inr}
+use Rattle.std.proofs.Common.{inl, inr, ⊎_elim}
 use Rattle.object_model.specs.Sets.{is_in}
 use Rattle.object_model.specs.Object.{Object, object_at}
 use Rattle.store_model.specs.Roots.{referents_in}
 use Rattle.store_model.specs.MarkingOrder.{settled_of, Visits, NoVisit, Passed, Visit}
-use Rattle.heap_phases.proofs.MarkSets.{⊎_elim, same, from-filter}
+use Rattle.store_model.proofs.MarkSets.{same, from-filter}
 use Rattle.object_model.proofs.Members.{or_first, or_second, in-either}
 
 module _ (kept : List Object) (settled : List ℕ) where
