@@ -1,28 +1,22 @@
 -- The last step of a cycle: chosen objects enter their queues, and the threshold is set.
-use Rattle.std.proofs.Common.{◌≡◌, ◌≢◌, ℕ, ◌*◌, ◌^◌, ◌≤◌, ◌<◌, ◌⊎◌, Bool, true, false, IsTrue, List, [], ◌∷◌, ◌++◌, map, refl, sym, ap, ap₂, ◌∙◌, subst, inl, inr, arith}
-use Rattle.std.specs.Prelude.{◌/◌, ◌==◌, nat_lt, filter_map, flat_map, unwrap_or}
+use Rattle.std.proofs.Common.{◌≡◌, ℕ, ◌*◌, ◌^◌, ◌≤◌, ◌<◌, List, [], ◌∷◌, ◌++◌, map, refl, sym, ap, ap₂, ◌∙◌, subst, inl, inr, arith}
+use Rattle.std.specs.Prelude.{◌/◌, ◌==◌, nat_lt, unwrap_or}
 use Rattle.std.proofs.lemmas.Bool.{cases_Bool}
 use Rattle.std.proofs.lemmas.List.{map-append}
 use Rattle.std.proofs.lemmas.Bool.Decides.{eqb_tells}
-use Rattle.type_table.specs.Table.{Table, KeysRise, value_at, with_value}
-use Rattle.type_table.proofs.TableLaws.{KeysRise-with_value}
-use Rattle.object_model.proofs.Members.{is_in-head, is_in-tail, is_in-cases, is_in-nil, in-left, in-right, in-either}
-use Rattle.object_model.specs.declared.settings.Settings.{Settings}
+use Rattle.type_table.specs.Table.{Table, value_at, with_value}
+use Rattle.object_model.proofs.Members.{is_in-nil}
 use Rattle.text_model.specs.declared.line.Phase.{Phase}
 use Rattle.text_model.specs.declared.line.Phase.TheVariants.{Scanning, Finalizing}
 use Rattle.store_model.specs.Store.{Store, old_words}
-use Rattle.object_model.specs.Sets.{is_in}
-use Rattle.store_model.specs.Roots.{pinned_births, roots_of, registered_births}
 use Rattle.store_model.specs.Sweeping.{queues_with, next_threshold, after_finalizing}
-use Rattle.store_model.specs.Sound.{IsSound, IsPhaseSound, AreGone}
 use Rattle.heap_parts.specs.Parts.{HeapParts}
 use Rattle.heap_parts.specs.OldSpace.{AreUnitsSwept}
 use Rattle.heap_parts.specs.Order.{IsGrayOf}
 use Rattle.heap_parts.specs.Headers.{is_marked}
 use Rattle.heap_parts.specs.Lists.{named_entries, named_queues}
 use Rattle.heap_parts.specs.StandsFor.{PartsStandFor}
-use Rattle.store_model.proofs.Times.{times_queued, once_less}
-use Rattle.store_model.proofs.FinalSound.{queued, queued_before, final_sound}
+use Rattle.store_model.proofs.FinalSound.{queued_before, final_sound}
 
 -- the parts afterwards
 abbrev pub final_parts : HeapParts → HeapParts

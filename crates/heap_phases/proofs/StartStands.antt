@@ -1,26 +1,19 @@
 -- Marking starts: the parts stand for the store that the start leaves.
-use Rattle.std.proofs.Common.{◌≡◌, ℕ, ◌<◌, Bool, true, false, IsTrue, List, [], ◌∷◌, ◌++◌, map, refl, ap, ◌∙◌, subst, inl, inr}
-use Rattle.std.specs.Prelude.{IsFalse, not, ◌&&◌, filter, filter_map}
-use Rattle.std.proofs.lemmas.Bool.{cases_Bool}
-use Rattle.object_model.proofs.Members.{is_in-nil, filter-part, in-left, in-right, and_first, and_second, and_both, not_both, not-true}
-use Rattle.object_model.specs.declared.settings.Settings.{Settings}
+use Rattle.std.proofs.Common.{◌≡◌, ℕ, Bool, IsTrue, List, map, refl, ap, ◌∙◌, subst}
+use Rattle.object_model.proofs.Members.{is_in-nil, filter-part}
 use Rattle.text_model.specs.declared.line.Phase.{Phase}
 use Rattle.text_model.specs.declared.line.Phase.TheVariants.{Scanning, Marking}
-use Rattle.object_model.specs.Object.{Object, object_at}
-use Rattle.store_model.specs.Store.{Store, is_settled}
+use Rattle.store_model.specs.Store.{Store}
 use Rattle.object_model.specs.Sets.{is_in}
-use Rattle.store_model.specs.Roots.{pinned_births, is_kept, roots_of, registered_births, referents_in}
-use Rattle.store_model.specs.Reach.{Tells, births_where, refers, IsReached, IsRetained}
+use Rattle.store_model.specs.Roots.{roots_of}
+use Rattle.store_model.specs.Reach.{Tells, IsReached, IsRetained}
 use Rattle.store_model.specs.MarkingOrder.{settled_of}
-use Rattle.store_model.specs.Sound.{IsSound, IsPhaseSound}
 use Rattle.heap_parts.specs.Parts.{HeapParts}
 use Rattle.heap_parts.specs.Places.{old_places, AreAmong}
 use Rattle.heap_parts.specs.OldSpace.{AreUnitsSwept}
 use Rattle.heap_parts.specs.Headers.{is_marked}
 use Rattle.heap_parts.specs.StandsFor.{PartsStandFor}
 use Rattle.store_model.specs.MinorCollection.{AreAllPinned}
-use Rattle.store_model.proofs.Rounds.{LeadsTo-step, LeadsTo-start}
-use Rattle.store_model.proofs.After.{birth_where, in_births_where}
 use Rattle.store_model.proofs.StartSound.{started_marking, start_sound}
 
 abbrev pub marking_parts : HeapParts → List ℕ → HeapParts

@@ -1,6 +1,6 @@
 -- A store without some husks is sound.
-use Rattle.std.proofs.Common.{◌≡◌, ◌≢◌, ℕ, suc, ◌+◌, ◌*◌, ◌≤◌, ◌⊎◌, Bool, true, false, IsTrue, List, [], ◌∷◌, ◌++◌, map, length, nat_eq, Some, refl, sym, ap, ap₂, ◌∙◌, subst, inl, inr, arith}
-use Rattle.std.specs.Prelude.{IsFalse, nat_le, nat_lt, not, ◌==◌, ◌&&◌, filter, sum_by, if◌then◌else◌}
+use Rattle.std.proofs.Common.{◌≡◌, ◌≢◌, ℕ, suc, ◌+◌, ◌*◌, ◌≤◌, ◌⊎◌, Bool, true, false, IsTrue, List, [], ◌∷◌, ◌++◌, map, length, nat_eq, refl, sym, ap, ap₂, ◌∙◌, subst, inl, inr, arith}
+use Rattle.std.specs.Prelude.{nat_le, nat_lt, not, ◌==◌, ◌&&◌, filter, sum_by, if◌then◌else◌}
 use Rattle.std.specs.List.{IsDistinct, AllByRecursion}
 use Rattle.std.specs.List.Sorted.{IsPermutation}
 use Rattle.std.proofs.lemmas.Bool.{cases_Bool, ne_eqb}
@@ -40,7 +40,6 @@ use Rattle.store_model.specs.Store.{Store, husk_words}
 use Rattle.object_model.specs.Setup.{small_words}
 use Rattle.object_model.specs.Sets.{is_in}
 use Rattle.store_model.specs.Sweeping.{husks_where, is_freed}
-use Rattle.store_model.specs.Sound.{IsSound, IsPhaseSound, births_in}
 use Rattle.heap_parts.specs.Parts.{HeapParts, word_in, home_in}
 use Rattle.heap_parts.specs.Places.{young_places, old_places, block_at}
 use Rattle.heap_parts.specs.Headers.{IsSettledHeader, is_marked, keeps_cards}
@@ -49,7 +48,6 @@ use Rattle.heap_phases.specs.Swept.{without_husks, swept_parts, freed_words}
 use Rattle.heap_parts.proofs.PlaceLaws.{young-is_in, old-is_in, named-by as named_by}
 use Rattle.heap_parts.proofs.SameLayouts.{SameLayouts}
 use Rattle.heap_parts.proofs.KeepWords.{firsts-stay}
-use Rattle.store_model.proofs.MarkedSound.{entry_part}
 use Rattle.heap_phases.proofs.EndStands.{sum_map, sum_split}
 use Rattle.heap_parts.proofs.Filters.{filter_at, filter_none}
 use Rattle.heap_phases.proofs.SweepWords.{other_husks, swept, swept_words, first_is, husk_first_is, shadow_first_is, low_same, swept_layouts, dead_are, or_later}

@@ -19,9 +19,7 @@ use Rattle.text_model.specs.declared.line.Phase.{Phase}
 use Rattle.text_model.specs.declared.line.Phase.TheVariants.{Marking}
 use Rattle.object_model.specs.Layout.{Layout}
 use Rattle.store_model.specs.Store.{Store}
-use Rattle.object_model.specs.declared.settings.Settings.{Settings}
 use Rattle.object_model.specs.Sets.{is_in}
-use Rattle.store_model.specs.Sound.{IsSound, IsPhaseSound}
 use Rattle.object_model.specs.ObjectWords.{updated, words_at}
 use Rattle.object_model.specs.Holds.{HoldsObjects}
 use Rattle.store_model.specs.MarkingOrder.{IsInOrder}

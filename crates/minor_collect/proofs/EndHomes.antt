@@ -1,8 +1,6 @@
 -- Homes after a minor collection: those that were told of what stays, and reserved ones of pinned objects alone.
-use Rattle.std.proofs.Common.{◌≡◌, ℕ, Bool, true, false, IsTrue, List, [], ◌∷◌, ◌++◌, Option, Some, refl, sym, ap, ◌∙◌, subst, inl, inr}
-use Rattle.std.proofs.lemmas.Bool.{cases_Bool}
-use Rattle.std.proofs.lemmas.Bool.Decides.{eqb_tells}
-use Rattle.type_table.specs.Table.{Table, value_at, entries_where}
+use Rattle.std.proofs.Common.{◌≡◌, ℕ, Bool, IsTrue, List, ◌++◌, Option, Some, sym, ap, ◌∙◌, subst, inl, inr}
+use Rattle.type_table.specs.Table.{Table, entries_where}
 use Rattle.object_model.specs.Sets.{is_in}
 use Rattle.heap_parts.specs.Places.{young_places, old_places}
 use Rattle.heap_parts.specs.StandsFor.{HoldsHomes}
