@@ -14,7 +14,7 @@ use Rattle.heap_space.proofs.Blocks.{length-overwritten, word_at-before_run, wor
 use Rattle.object_header.specs.declared.flags.Flag.TheVariants.{Free, Shadow, Order1, Order2}
 use Rattle.object_header.proofs.HeaderLaws.{has_flag-type}
 use Rattle.object_view.proofs.InitLaws.{with_blocks}
-use Rattle.object_view.proofs.WordLaws.{is_in-cases, is_in-nil, map-same}
+use Rattle.object_model.proofs.Members.{is_in-cases, is_in-nil, map-same}
 use Rattle.old_space.specs.HasBlocks.{HasBlocks}
 use Rattle.old_space.specs.declared.Old.{Old}
 use Rattle.old_space.proofs.JoinLaws.{HasBlocks_untouched, HasBlocks_permuted}

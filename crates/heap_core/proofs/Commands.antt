@@ -11,7 +11,7 @@ use Rattle.old_space.specs.declared.Old.{Old}
 use Rattle.type_table.specs.declared.info.TypeInfo.{TypeInfo}
 use Rattle.type_table.specs.Table.{Table}
 use Rattle.object_view.specs.Views.{HasObject}
-use Rattle.object_view.proofs.WordLaws.{is_in-cases, is_in-nil}
+use Rattle.object_model.proofs.Members.{is_in-cases, is_in-nil}
 use Rattle.object_view.proofs.LayoutLaws.{laid_out}
 use Rattle.object_view.proofs.FoundLaws.{int-from, ref-from, type-from}
 use Rattle.object_view.proofs.FrameLaws.{none_hold}

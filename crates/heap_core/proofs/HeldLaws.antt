@@ -10,7 +10,8 @@ use Rattle.heap_space.specs.Places.{lies_in_one}
 use Rattle.heap_space.proofs.Blocks.{lies-with_run}
 use Rattle.object_view.specs.Births.{born_words}
 use Rattle.object_view.specs.Views.{HasObject}
-use Rattle.object_view.proofs.WordLaws.{is_in-head, is_in-tail, is_in-append, is_in-before, is_in-last, updated-here, updated-other}
+use Rattle.object_view.proofs.WordLaws.{updated-here, updated-other}
+use Rattle.object_model.proofs.Members.{is_in-head, is_in-tail, is_in-append, is_in-before, is_in-last}
 use Rattle.object_view.proofs.LayoutLaws.{SameAt, keeps-same}
 use Rattle.object_view.proofs.NewbornLaws.{BornAt, IsFree, birth_holds, names-agree, length-born_words, request_of}
 use Rattle.object_view.proofs.WholeLaws.{born-written, has_object-born, has_object-keeps}

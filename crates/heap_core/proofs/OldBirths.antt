@@ -12,7 +12,7 @@ use Rattle.heap_space.proofs.Blocks.{lies-with_run}
 use Rattle.object_view.specs.Births.{born_words}
 use Rattle.object_view.proofs.InitLaws.{two-words}
 use Rattle.object_view.proofs.LayoutLaws.{laid_out}
-use Rattle.object_view.proofs.WordLaws.{is_in-append}
+use Rattle.object_model.proofs.Members.{is_in-append}
 use Rattle.object_view.proofs.NewbornLaws.{born-is, born-first, free-unmet, request_of, length-born_words}
 use Rattle.old_space.specs.HasBlocks.{HasBlocks}
 use Rattle.old_space.specs.declared.Old.{Old}

@@ -6,10 +6,10 @@ use Rattle.std.proofs.lemmas.List.Elements.{filter-append}
 use Rattle.std.proofs.lemmas.List.Sums.{sum_by-cons}
 use Rattle.type_table.specs.declared.info.TypeInfo.{TypeInfo}
 use Rattle.type_table.specs.Table.{Table}
-use Rattle.object_view.proofs.WordLaws.{is_in-head, is_in-tail, is_in-cases, is_in-nil}
+use Rattle.object_model.proofs.Members.{is_in-head, is_in-tail, is_in-cases, is_in-nil, filter-part, filter-member}
 use Rattle.object_view.proofs.LayoutLaws.{birth-from}
 use Rattle.object_view.proofs.FoundLaws.{kept_words-held}
-use Rattle.object_view.proofs.SurvivorLaws.{filter-part, filter-member, part_holds}
+use Rattle.object_view.proofs.SurvivorLaws.{part_holds}
 use Rattle.object_model.specs.Object.{Object, kept_words}
 use Rattle.store_model.specs.Store.{unsettled_words, settled_words}
 use Rattle.object_model.specs.Sets.{is_in}

@@ -15,7 +15,7 @@ use Rattle.store_model.specs.Roots.{is_kept, referents_in, target_in, roots_of}
 use Rattle.store_model.specs.Sound.{IsSound, AreFieldsKept, births_in}
 use Rattle.object_model.specs.ObjectWords.{words_from, renamed, object_from, layout_at, info_at, target_of}
 use Rattle.object_model.specs.Holds.{HoldsObjects, IsPointer}
-use Rattle.object_view.proofs.WordLaws.{is_in-head, is_in-tail, is_in-cases, is_in-nil}
+use Rattle.object_model.proofs.Members.{is_in-head, is_in-tail, is_in-cases, is_in-nil}
 use Rattle.object_view.proofs.LayoutLaws.{laid_out, weak-at, birth-from}
 use Rattle.object_view.proofs.FoundLaws.{StandsAt, found-at, stands-found, refs-from}
 use Rattle.heap_core.specs.StandsFor.{HoldsSlots, RiseBetween, old_places, plain_store}

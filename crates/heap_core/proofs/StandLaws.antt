@@ -7,7 +7,7 @@ use Rattle.type_table.specs.declared.info.TypeInfo.{TypeInfo}
 use Rattle.type_table.specs.Table.{Table}
 use Rattle.heap_space.specs.Places.{lies_in_one, has}
 use Rattle.heap_space.proofs.Blocks.{lies-with_word}
-use Rattle.object_view.proofs.WordLaws.{is_in-head, is_in-tail, is_in-cases}
+use Rattle.object_model.proofs.Members.{is_in-head, is_in-tail, is_in-cases}
 use Rattle.object_view.proofs.LayoutLaws.{laid_out}
 use Rattle.object_view.proofs.SpaceLaws.{word_at-written, lies-at}
 use Rattle.object_view.proofs.ChangeLaws.{each-keeps, changes-updated}

@@ -15,7 +15,7 @@ use Rattle.object_model.specs.declared.structure.StructState.TheVariants.{Absent
 use Rattle.store_model.specs.Look.{look, is_held_in}
 use Rattle.object_model.specs.ObjectWords.{renamed, object_from, layout_at}
 use Rattle.object_model.specs.Holds.{HoldsObjects, IsPointer}
-use Rattle.object_view.proofs.WordLaws.{is_in-head, is_in-tail}
+use Rattle.object_model.proofs.Members.{is_in-head, is_in-tail}
 use Rattle.heap_core.specs.Parts.{HeapParts}
 use Rattle.heap_core.specs.Told.{word_in, place_in, kind_from, kind_at, told}
 use Rattle.heap_core.specs.StandsFor.{PartsStandFor}

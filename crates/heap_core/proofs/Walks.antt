@@ -6,7 +6,7 @@ use Rattle.type_table.specs.declared.info.TypeInfo.{TypeInfo}
 use Rattle.type_table.specs.Table.{Table}
 use Rattle.object_model.specs.Sets.{is_in}
 use Rattle.object_model.specs.ObjectWords.{words_at}
-use Rattle.object_view.proofs.WordLaws.{is_in-cases, is_in-nil}
+use Rattle.object_model.proofs.Members.{is_in-cases, is_in-nil}
 use Rattle.heap_core.specs.StandsFor.{IsWalk}
 
 -- objects in a row take the words between the ends of the row

@@ -27,7 +27,7 @@ use Rattle.heap_parts.specs.Effects.{with_barrier}
 use Rattle.heap_parts.proofs.PlaceLaws.{young-is_in, old-is_in}
 use Rattle.heap_parts.proofs.KeepWords.{SameObjects, words_kept, firsts-stay}
 use Rattle.heap_parts.proofs.WriteWords.{header_written, husk_first, shadow_first, blocks_written}
-use Rattle.heap_parts.proofs.OrderLaws.{plain_in_order}
+use Rattle.store_model.proofs.OrderLaws.{plain_in_order}
 use Rattle.heap_parts.proofs.HeldLaws.{whole_here, whole_other, cards_same, held_more, among_more, held_settled}
 
 -- first words of which one changed

@@ -6,7 +6,7 @@ use Rattle.std.proofs.lemmas.Bool.Decides.{eqb_tells, nat_tests}
 use Rattle.std.proofs.lemmas.List.Elements.{All-nil, All-cons, All-head, All-tail}
 use Rattle.type_table.specs.Table.{Table, KeysRise, value_at}
 use Rattle.type_table.proofs.TableLaws.{first_key_below, KeysRise-tail, KeysRise-cons}
-use Rattle.object_view.proofs.WordLaws.{is_in-head, is_in-tail, map-same}
+use Rattle.object_model.proofs.Members.{is_in-head, is_in-tail, map-same, in-left, in-right}
 use Rattle.store_model.specs.Store.{Struct, Linked, Unlinked, Pending}
 use Rattle.object_model.specs.Sets.{is_in}
 use Rattle.store_model.specs.Structs.{Structs, object_of, with_object, with_objects}
@@ -14,8 +14,7 @@ use Rattle.heap_parts.specs.Remembered.{Held, Remembered, holds_item, is_held_of
 use Rattle.heap_parts.specs.Places.{AreAmong}
 use Rattle.heap_parts.specs.Lists.{named_entries, named_queues, HoldsList, HoldsEntries, HoldsQueues, HoldsLinks}
 use Rattle.heap_parts.specs.StandsFor.{HoldsFinalizers}
-use Rattle.heap_parts.proofs.Members.{in-left, in-right}
-use Rattle.heap_parts.proofs.StructLaws.{behind-first, first-value}
+use Rattle.store_model.proofs.StructLaws.{behind-first, first-value}
 
 -- names agree on these places
 abbrev pub AgreeOn : (ℕ → ℕ) → (ℕ → ℕ) → List ℕ → Type 0

@@ -14,7 +14,8 @@ use Rattle.heap_space.specs.Memory.{Memory}
 use Rattle.nursery_gaps.specs.Nursery.{Layout as NurseryLayout}
 use Rattle.object_header.specs.Words.{has_flag}
 use Rattle.object_header.specs.declared.flags.Flag.TheVariants.{Track, Visited, HasShadow, Pinned, HasCards, CardsSet}
-use Rattle.object_view.proofs.WordLaws.{is_in-head, is_in-tail, is_in-append, is_in-before, is_in-last, updated-here, updated-other, map-same}
+use Rattle.object_view.proofs.WordLaws.{updated-here, updated-other}
+use Rattle.object_model.proofs.Members.{is_in-head, is_in-tail, is_in-append, is_in-before, is_in-last, map-same, in-left, in-right, in-either, filter-agree}
 use Rattle.object_view.proofs.LayoutLaws.{info_at-same}
 use Rattle.old_space.specs.declared.Old.{Old}
 use Rattle.old_space.specs.HasBlocks.{greatest_small}
@@ -40,13 +41,12 @@ use Rattle.heap_parts.specs.Headers.{IsSettledHeader, IsShadowHeader, IsYoungHea
 use Rattle.heap_parts.specs.Lists.{HoldsSlots}
 use Rattle.heap_parts.specs.StandsFor.{PartsStandFor}
 use Rattle.heap_parts.proofs.Births.{rise-more}
-use Rattle.heap_parts.proofs.Members.{in-left, in-right, in-either, filter-agree}
 use Rattle.heap_parts.proofs.PlaceLaws.{placed_words, young-is_in, old-is_in, is_in-young, is_in-old, young-more, old-more, young-same, old-same, filter-more, filter-same}
 use Rattle.heap_parts.proofs.SameLayouts.{sum-same, sum-more}
 use Rattle.heap_parts.proofs.KeepWords.{SameWords, firsts-stay, headers_kept, young_flags_kept, remembered_kept, husks_kept}
-use Rattle.heap_parts.proofs.OrderLaws.{plain_in_order}
+use Rattle.store_model.proofs.OrderLaws.{plain_in_order}
 use Rattle.heap_parts.proofs.RootStands.{slots-set}
-use Rattle.heap_parts.proofs.BirthSound.{sound_born, born_order, kept-in}
+use Rattle.store_model.proofs.BirthSound.{sound_born, born_order, kept-in}
 use Rattle.heap_parts.proofs.BirthNames.{AgreeOn, entries_agree, finalizers_agree, links_agree, held_agrees}
 
 -- one weak object more, or not

@@ -1,9 +1,9 @@
 -- Births that rise, and places that are named by them.
-use Rattle.std.proofs.Common.{◌≡◌, ℕ, ◌+◌, ◌<◌, ◌≤◌, false, IsTrue, List, [], ◌∷◌, ◌++◌, map, nat_eq, refl, sym, ap, ◌∙◌, subst, inl, inr, arith}
+use Rattle.std.proofs.Common.{◌≡◌, ℕ, ◌+◌, ◌<◌, ◌≤◌, false, IsTrue, List, [], ◌∷◌, ◌++◌, map, nat_eq, refl, ap, ◌∙◌, inl, inr, arith}
 use Rattle.std.specs.List.{IsDistinct, AllByRecursion}
 use Rattle.std.proofs.lemmas.Bool.{ne_eqb}
 use Rattle.object_model.specs.Sets.{is_in}
-use Rattle.object_view.proofs.WordLaws.{is_in-head, is_in-tail, is_in-cases, is_in-nil}
+use Rattle.object_model.proofs.Members.{is_in-head, is_in-tail, is_in-cases, is_in-nil}
 use Rattle.heap_parts.specs.Places.{RiseBetween}
 
 -- rising births from a greater least one on
@@ -39,14 +39,6 @@ pub rise-differ : (least next : ℕ) (births : List ℕ) → RiseBetween least b
 unfolding IsDistinct
 rise-differ least next [] rise = tt
 rise-differ least next (b ∷ births) rise = (above-differ b (b + 1) next births (omega arith) rise.1, rise-differ (b + 1) next births rise.1)
-
--- the name of a place is among the names
-pub is_in-named : (name : ℕ → ℕ) (p : ℕ) (places : List ℕ) → IsTrue (is_in p places) → IsTrue (is_in (name p) (map name places))
-is_in-named name p [] t = absurd (is_in-nil p t)
-is_in-named name p (q ∷ places) t = elim (is_in-cases p q places t) [
-  | inl e ↦ let P : ℕ → Type 0 = λ k. IsTrue (is_in (name k) (name q ∷ map name places)) in subst P (sym e) (is_in-head (name q) (map name places))
-  | inr u ↦ is_in-tail (name p) (name q) (map name places) (is_in-named name p places u)
-]
 
 -- the births of objects that are read at places are the names of the places
 pub map-births : {X : Type 0} → (birth : X → ℕ) (read : ℕ → X) (name : ℕ → ℕ) (places : List ℕ)

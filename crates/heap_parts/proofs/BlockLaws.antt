@@ -12,7 +12,7 @@ use Rattle.heap_space.specs.Extents.{Extent, Each, IsOutside, extent_of, begins_
 use Rattle.heap_space.proofs.ExtentLaws.{lies_in_one-extents, lies_in_one-between}
 use Rattle.heap_space.proofs.Blocks.{length-overwritten, word_at-before_run, word_at-after_run}
 use Rattle.object_view.proofs.InitLaws.{with_blocks}
-use Rattle.object_view.proofs.WordLaws.{is_in-cases, is_in-nil, map-same}
+use Rattle.object_model.proofs.Members.{is_in-cases, is_in-nil, map-same}
 use Rattle.old_space.specs.HasBlocks.{HasBlocks}
 use Rattle.old_space.specs.declared.Old.{Old}
 use Rattle.old_space.proofs.JoinLaws.{HasBlocks_untouched, HasBlocks_permuted}

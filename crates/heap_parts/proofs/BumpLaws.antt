@@ -13,7 +13,7 @@ use Rattle.heap_space.specs.Places.{lies_in_one, word_at}
 use Rattle.heap_space.specs.Memory.{Memory}
 use Rattle.nursery_gaps.specs.Ranges.{Range, words_between, is_free}
 use Rattle.nursery_gaps.specs.Nursery.{Layout as NurseryLayout, HandsOut, Fits, FitsLowest, IsLaidOut, gap_at}
-use Rattle.object_view.proofs.WordLaws.{is_in-append}
+use Rattle.object_model.proofs.Members.{is_in-append}
 use Rattle.object_model.specs.Layout.{Layout}
 use Rattle.object_model.specs.ObjectWords.{words_at}
 use Rattle.heap_parts.specs.Nursery.{IsWalk, AreWalks, walked, HoldsNursery, IsUngapped}

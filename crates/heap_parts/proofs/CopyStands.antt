@@ -13,8 +13,7 @@ use Rattle.heap_parts.specs.Parts.{HeapParts, word_in, place_in}
 use Rattle.heap_parts.specs.StandsFor.{PartsStandFor}
 use Rattle.heap_parts.specs.Effects.{with_word_at, ref_place, layout_in}
 use Rattle.heap_parts.proofs.StandLaws.{in_slot, link_stands}
-use Rattle.heap_parts.proofs.LinkLaws.{held_root}
-use Rattle.heap_parts.proofs.RootLaws.{can_root, can_refer}
+use Rattle.store_model.proofs.RootLaws.{held_root, can_root, can_refer}
 use Rattle.heap_parts.proofs.RootStands.{ref_is, found-ref}
 
 -- One reference of the object in a slot becomes one of that in another slot. The item is remembered where the object is settled.

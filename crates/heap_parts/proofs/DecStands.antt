@@ -4,7 +4,7 @@ use Rattle.std.specs.Prelude.{IsFalse, option_map, option_and_then, ◌==◌, no
 use Rattle.std.specs.List.{IsDistinct}
 use Rattle.std.proofs.lemmas.Bool.{cases_Bool, ne_eqb}
 use Rattle.std.proofs.lemmas.Bool.Decides.{eqb_tells}
-use Rattle.object_view.proofs.WordLaws.{is_in-head}
+use Rattle.object_model.proofs.Members.{is_in-head}
 use Rattle.type_table.specs.Table.{Table, KeysRise, value_at, with_value}
 use Rattle.type_table.proofs.TableLaws.{value_at-with_value, value_at-without_key, KeysRise-with_value, KeysRise-entries_where}
 use Rattle.store_model.specs.Store.{Store, Struct, Linked, Unlinked, Pending}
@@ -14,9 +14,9 @@ use Rattle.store_model.specs.Sound.{p_linked_object, IsOwnSound}
 use Rattle.store_model.specs.PlainCommands.{lower_struct, lowered_at, take_dead_struct}
 use Rattle.heap_parts.specs.Parts.{HeapParts}
 use Rattle.heap_parts.specs.StandsFor.{PartsStandFor}
-use Rattle.heap_parts.proofs.RootLaws.{relieves_none, can_root, are_roots}
-use Rattle.heap_parts.proofs.ReserveLaws.{differ-in}
-use Rattle.heap_parts.proofs.StructLaws.{PutsAt, forced-found, with_value-objects, without_key-objects}
+use Rattle.store_model.proofs.RootLaws.{relieves_none, can_root, are_roots}
+use Rattle.object_model.proofs.Distinct.{differ-in}
+use Rattle.store_model.proofs.StructLaws.{PutsAt, forced-found, with_value-objects, without_key-objects}
 use Rattle.heap_parts.proofs.StructStands.{CanFall, with_links, struct_stands, struct-named, not-queued, some-pending}
 
 object-lowered : (t : Struct) (x : ℕ) → option_and_then object_of (lowered t) ≡ Some x → object_of t ≡ Some x

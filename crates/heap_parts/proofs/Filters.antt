@@ -1,21 +1,14 @@
 -- Places that pass a test, and those that do not.
-use Rattle.std.proofs.Common.{◌≡◌, ℕ, zero, suc, ◌<◌, Bool, true, false, IsTrue, List, [], ◌∷◌, ◌++◌, map, length, nat_eq, refl, sym, ap, ◌∙◌, subst, inl, inr, arith}
-use Rattle.std.specs.Prelude.{IsFalse, not, filter, slice_index_or, Contains}
-use Rattle.std.specs.List.{IsDistinct, AllByRecursion}
+use Rattle.std.proofs.Common.{◌≡◌, ℕ, zero, suc, ◌<◌, Bool, true, false, IsTrue, List, [], ◌∷◌, ◌++◌, map, length, refl, sym, ap, subst, inl, inr, arith}
+use Rattle.std.specs.Prelude.{not, filter, slice_index_or, Contains}
 use Rattle.std.specs.List.Sorted.{IsPermutation}
 use Rattle.std.proofs.lemmas.Bool.{cases_Bool}
-use Rattle.std.proofs.lemmas.Bool.Decides.{eqb_tells, nat_tests}
 use Rattle.std.proofs.lemmas.List.{map-append, append_assoc}
 use Rattle.std.proofs.lemmas.List.Sorted.{IsPermutation-map, IsPermutation-filter_both, IsPermutation-append_left}
 use Rattle.heap_space.specs.Extents.{Extent}
 use Rattle.large_objects.proofs.Same.{filter-same, same-permutation, permutation-same}
-use Rattle.object_view.proofs.WordLaws.{is_in-head, is_in-tail}
-use Rattle.object_view.proofs.SurvivorLaws.{filter-member}
+use Rattle.object_model.proofs.Members.{is_in-head, is_in-tail, filter-member}
 use Rattle.object_model.specs.Sets.{is_in}
-
-pub not-true : (b : Bool) → not b ≡ true → b ≡ false
-not-true true e = absurd (let no : ⊥ = cc in no)
-not-true false e = refl
 
 -- two tests in either order
 pub filter_swap : (f g : ℕ → Bool) (xs : List ℕ) → filter f (filter g xs) ≡ filter g (filter f xs)
@@ -100,22 +93,3 @@ contains_is_in (y ∷ ys) x c = go (λ d. contains_is_in ys x d) c.0 c.1 c.2
 pub among_filtered : (test : ℕ → Bool) (ps qs : List ℕ) → ((p : ℕ) → IsTrue (is_in p qs) → IsTrue (is_in p ps)) → ((p : ℕ) → IsTrue (is_in p qs) → test p ≡ true)
     → (p : ℕ) → IsTrue (is_in p qs) → IsTrue (is_in p (filter test ps))
 among_filtered test ps qs among passes p t = filter-member test ps p (among p t) (passes p t)
-
--- a number that is not among some differs from each
-pub all_differ : (x : ℕ) (xs : List ℕ) → IsFalse (is_in x xs) → AllByRecursion (λ y. nat_eq x y ≡ false) xs
-all_differ x [] out = tt
-all_differ x (y ∷ ys) out = elim (eqb_tells y x) [
-  | inl e ↦ absurd (let yes : is_in x (y ∷ ys) ≡ true = rw e.0 refl in let no : ⊥ = cc in no)
-  | inr e ↦ ((let ne = e.1 in grind (arith, nat_tests)), all_differ x ys (let rest : is_in x (y ∷ ys) ≡ is_in x ys = rw e.0 refl in sym rest ∙ out))
-]
-
--- numbers that differ, behind others
-pub distinct_append : (xs ys : List ℕ) → IsDistinct nat_eq xs → IsDistinct nat_eq ys → ((x : ℕ) → IsTrue (is_in x xs) → IsFalse (is_in x ys)) → IsDistinct nat_eq (xs ++ ys)
-unfolding IsDistinct
-distinct_append [] ys d e apart = e
-distinct_append (x ∷ xs) ys d e apart =
-    (both xs d.0 (all_differ x ys (apart x (is_in-head x xs))), distinct_append xs ys d.1 e (λ z t. apart z (is_in-tail z x xs t)))
-  where
-    both : (zs : List ℕ) → AllByRecursion (λ y. nat_eq x y ≡ false) zs → AllByRecursion (λ y. nat_eq x y ≡ false) ys → AllByRecursion (λ y. nat_eq x y ≡ false) (zs ++ ys)
-    both [] a b = b
-    both (z ∷ zs) a b = (a.0, both zs a.1 b)

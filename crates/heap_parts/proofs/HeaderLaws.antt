@@ -11,13 +11,10 @@ use Rattle.object_view.proofs.LayoutLaws.{laid_out, info_at-same}
 use Rattle.object_view.proofs.SpaceLaws.{word_at-written, lies-at}
 use Rattle.object_view.proofs.FrameLaws.{header_holds}
 use Rattle.object_model.specs.Layout.{Layout}
-use Rattle.object_model.specs.declared.settings.Settings.{Settings}
 use Rattle.store_model.specs.Store.{Store}
 use Rattle.object_model.specs.Sets.{is_in}
 use Rattle.object_model.specs.ObjectWords.{updated, words_at}
 use Rattle.object_model.specs.Holds.{HoldsObjects}
-use Rattle.store_model.specs.Sound.{IsSound, ArePinsSound}
-use Rattle.store_model.specs.Roots.{roots_of}
 use Rattle.heap_parts.specs.Parts.{HeapParts, word_in, home_in}
 use Rattle.heap_parts.specs.Places.{is_young, young_places, old_places}
 use Rattle.heap_parts.specs.OldSpace.{reserved_homes}
@@ -29,8 +26,7 @@ use Rattle.heap_parts.proofs.PlaceLaws.{young-is_in, old-is_in}
 use Rattle.heap_parts.proofs.KeepWords.{SameObjects, words_kept, firsts-stay}
 use Rattle.heap_parts.proofs.WriteWords.{header_written, husk_first, shadow_first, blocks_written}
 use Rattle.heap_parts.proofs.BarrierLaws.{firsts-but}
-use Rattle.heap_parts.proofs.SoundLaws.{CanBeRoot}
-use Rattle.heap_parts.proofs.RootLaws.{relieves_none, can_root, RootChange, roots_each, are_roots, sound_rerooted}
+use Rattle.store_model.proofs.RootLaws.{RootChange, sound_rerooted}
 
 -- What is known where the first word of an object was written: only it changed, and no object, no husk, no block.
 pub record HeaderIs (heap : HeapParts) (store : Store) (s : PartsStandFor heap store) (p x : ℕ) : Type 0 where
@@ -124,30 +120,4 @@ pins_stand heap store p x pins s t type young shadowed pinned others entries cha
       made = record { ranges = s.made.ranges; words = s.made.words; pins = s.made.pins; card = s.made.card; arena = s.made.arena; small = s.made.small; page = s.made.page };
       order = s.order;
       sound = sound_rerooted change s.sound;
-    }
-
--- The pins of a store change: each pinned object was pinned or is a root.
-pub pins_change : (settings : Settings) (store : Store) (pinned : List (ℕ × ℕ)) → IsSound settings store → ArePinsSound settings.pins store.kept store.settled pinned
-    → ((x : ℕ) → IsTrue (is_in x (map (λ entry. entry.0) pinned)) → IsTrue (is_in x (roots_of store)))
-    → RootChange settings store (record store { pinned = pinned })
-pins_change settings store pinned s sound rooted =
-    let new : Store = record store { pinned = pinned } in
-    let was = are_roots store in
-    let old : (x : ℕ) → IsTrue (is_in x (roots_of store)) → CanBeRoot store.kept store.unreached store.doomed x = λ x t. can_root s x t in
-    record {
-      only = refl;
-      relieves = relieves_none store.kept store.unreached store.doomed;
-      roots = λ x t. roots_each {store = new} {P = CanBeRoot store.kept store.unreached store.doomed} (record {
-        slot = λ y u. old y (was.slot y u);
-        pin = λ y u. old y (rooted y u);
-        choice = λ y u. old y (was.choice y u);
-        queue = λ y u. old y (was.queue y u);
-        force = λ y u. old y (was.force y u);
-      }) x t;
-      registered = λ x t. (s.registered x t, s.registered_retained x t);
-      pins = sound;
-      queues_rise = s.queues_rise;
-      once = s.once;
-      waiting = s.waiting;
-      links = s.links;
     }

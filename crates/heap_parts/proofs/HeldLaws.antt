@@ -4,12 +4,11 @@ use Rattle.std.specs.Prelude.{◌==◌, ◌&&◌, ◌||◌}
 use Rattle.std.specs.List.{list_any}
 use Rattle.std.proofs.lemmas.Bool.{eq-eqb, ne_eqb}
 use Rattle.std.proofs.lemmas.Bool.Decides.{eqb_tells}
-use Rattle.object_view.proofs.WordLaws.{is_in-head, is_in-tail, is_in-cases}
+use Rattle.object_model.proofs.Members.{is_in-head, is_in-tail, is_in-cases, or_cases, or_first, or_second, is_in-named}
 use Rattle.object_model.specs.Sets.{is_in}
 use Rattle.store_model.specs.MarkingOrder.{HeldSettled}
 use Rattle.heap_parts.specs.Remembered.{Held, Remembered, held_whole, hold_whole, with_whole, held_places, is_held_whole, has_held_cards, is_held_of, holds_item, has_any}
 use Rattle.heap_parts.specs.Places.{AreAmong}
-use Rattle.heap_parts.proofs.Births.{is_in-named}
 
 any-same : (f : Held → Bool) (hs : List Held) (p : ℕ) → f (held_whole p) ≡ false → ((h : Held) → h.place ≡ p → f (record h { is_whole = true }) ≡ f h)
     → list_any f (hold_whole hs p) ≡ list_any f hs
@@ -18,18 +17,6 @@ any-same f (h ∷ hs) p new same = elim (eqb_tells h.place p) [
   | inl e ↦ rw e.0 (ap (λ (b : Bool). b || list_any f hs) (same h e.1))
   | inr e ↦ rw e.0 (ap (λ (b : Bool). f h || b) (any-same f hs p new same))
 ]
-
-pub or-either : (a b : Bool) → IsTrue (a || b) → IsTrue a ⊎ IsTrue b
-or-either true b t = inl refl
-or-either false b t = inr t
-
-pub or-first : (a b : Bool) → IsTrue a → IsTrue (a || b)
-or-first true b t = refl
-or-first false b t = absurd (let no : ⊥ = cc in no)
-
-pub or-second : (a b : Bool) → IsTrue b → IsTrue (a || b)
-or-second true b t = refl
-or-second false b t = t
 
 and-false : (b : Bool) → (b && false) ≡ false
 and-false true = refl
@@ -43,13 +30,13 @@ any-more : (f : Held → Bool) (hs : List Held) (p : ℕ) → ((h : Held) → Is
     → IsTrue (list_any f hs) → IsTrue (list_any f (hold_whole hs p))
 any-more f [] p more t = absurd (let no : ⊥ = cc in no)
 any-more f (h ∷ hs) p more t = elim (eqb_tells h.place p) [
-  | inl e ↦ rw e.0 (elim (or-either (f h) (list_any f hs) t) [
-    | inl here ↦ or-first (f (record h { is_whole = true })) (list_any f hs) (more h here)
-    | inr there ↦ or-second (f (record h { is_whole = true })) (list_any f hs) there
+  | inl e ↦ rw e.0 (elim (or_cases (f h) (list_any f hs) t) [
+    | inl here ↦ or_first (f (record h { is_whole = true })) (list_any f hs) (more h here)
+    | inr there ↦ or_second (f (record h { is_whole = true })) (list_any f hs) there
   ])
-  | inr e ↦ rw e.0 (elim (or-either (f h) (list_any f hs) t) [
-    | inl here ↦ or-first (f h) (list_any f (hold_whole hs p)) here
-    | inr there ↦ or-second (f h) (list_any f (hold_whole hs p)) (any-more f hs p more there)
+  | inr e ↦ rw e.0 (elim (or_cases (f h) (list_any f hs) t) [
+    | inl here ↦ or_first (f h) (list_any f (hold_whole hs p)) here
+    | inr there ↦ or_second (f h) (list_any f (hold_whole hs p)) (any-more f hs p more there)
   ])
 ]
 
@@ -57,7 +44,7 @@ any-whole : (hs : List Held) (p : ℕ) → list_any (λ h. h.place == p && h.is_
 any-whole [] p = rw (eq-eqb p p refl) refl
 any-whole (h ∷ hs) p = elim (eqb_tells h.place p) [
   | inl e ↦ rw e.0 (ap (λ (b : Bool). (b && true) || list_any (λ (k : Held). k.place == p && k.is_whole) hs) e.0)
-  | inr e ↦ rw e.0 (or-second (h.place == p && h.is_whole) (list_any (λ (k : Held). k.place == p && k.is_whole) (hold_whole hs p)) (any-whole hs p))
+  | inr e ↦ rw e.0 (or_second (h.place == p && h.is_whole) (list_any (λ (k : Held). k.place == p && k.is_whole) (hold_whole hs p)) (any-whole hs p))
 ]
 
 -- the object is remembered whole
@@ -101,7 +88,7 @@ among_more r p places t among q u = elim (places-more r.held p q u) [
 held-in : (card : ℕ) (hs : List Held) (name : ℕ → ℕ) (places : List ℕ) (x i : ℕ) → AreAmong places (map (λ (h : Held). h.place) hs)
     → IsTrue (list_any (λ h. name h.place == x && holds_item card h i) hs) → IsTrue (is_in x (map name places))
 held-in card [] name places x i among t = absurd (let no : ⊥ = cc in no)
-held-in card (h ∷ hs) name places x i among t = elim (or-either (name h.place == x && holds_item card h i) (list_any (λ g. name g.place == x && holds_item card g i) hs) t) [
+held-in card (h ∷ hs) name places x i among t = elim (or_cases (name h.place == x && holds_item card h i) (list_any (λ g. name g.place == x && holds_item card g i) hs) t) [
   | inl here ↦ elim (eqb_tells (name h.place) x) [
     | inl e ↦ subst (λ (k : ℕ). IsTrue (is_in k (map name places))) e.1 (is_in-named name h.place places (among h.place (is_in-head h.place (map (λ (g : Held). g.place) hs))))
     | inr e ↦ absurd (let f : (name h.place == x && holds_item card h i) ≡ false = rw e.0 refl in let no : ⊥ = cc in no)

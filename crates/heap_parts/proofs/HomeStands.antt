@@ -16,14 +16,16 @@ use Rattle.heap_parts.specs.Parts.{HeapParts, word_in, home_in}
 use Rattle.heap_parts.specs.Places.{is_young, young_places, old_places, block_at}
 use Rattle.heap_parts.specs.OldSpace.{reserved_blocks}
 use Rattle.heap_parts.specs.StandsFor.{PartsStandFor}
-use Rattle.heap_parts.proofs.Members.{each-left, each-right, in-left, apart-both}
+use Rattle.heap_parts.proofs.Members.{each-left, each-right, apart-both}
+use Rattle.object_model.proofs.Members.{in-left}
 use Rattle.heap_parts.proofs.PlaceLaws.{young-is_in, old-is_in}
 use Rattle.heap_parts.proofs.BlockLaws.{each-member}
 use Rattle.heap_parts.proofs.KeepWords.{firsts-stay, headers_kept, young_flags_kept, remembered_kept}
 use Rattle.heap_parts.proofs.WriteWords.{each-imp, each-both, each-reserved}
 use Rattle.heap_parts.proofs.TakeLaws.{MemoryKeeps, memory_same, memory_kept}
-use Rattle.heap_parts.proofs.ReserveLaws.{home_sound, found-in}
-use Rattle.heap_parts.proofs.BirthSound.{kept-in}
+use Rattle.heap_parts.proofs.ReserveLaws.{found-in}
+use Rattle.store_model.proofs.HomeSound.{home_sound}
+use Rattle.store_model.proofs.BirthSound.{kept-in}
 use Rattle.heap_parts.proofs.ReviveStands.{named-kept}
 
 -- a settled object is not at another's home

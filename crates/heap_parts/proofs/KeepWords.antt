@@ -12,7 +12,7 @@ use Rattle.nursery_gaps.specs.Ranges.{Range}
 use Rattle.nursery_gaps.specs.Nursery.{Layout as NurseryLayout}
 use Rattle.object_header.specs.Words.{has_flag}
 use Rattle.object_header.specs.declared.flags.Flag.TheVariants.{HasCards}
-use Rattle.object_view.proofs.WordLaws.{map-same}
+use Rattle.object_model.proofs.Members.{map-same, in-left, in-right, filter-agree, filter_map-agree}
 use Rattle.object_view.proofs.LayoutLaws.{info_at-same}
 use Rattle.old_space.specs.HasBlocks.{HasBlocks}
 use Rattle.old_space.specs.declared.Old.{Old}
@@ -28,7 +28,6 @@ use Rattle.heap_parts.specs.Nursery.{AreWalks, walked, HoldsNursery}
 use Rattle.heap_parts.specs.OldSpace.{reserved_block, reserved_blocks, reserved_homes, blocks_of, husk_at, HoldsHusks}
 use Rattle.heap_parts.specs.Headers.{keeps_cards, IsCarded}
 use Rattle.heap_parts.specs.StandsFor.{HoldsWords, HoldsHeaders, HoldsYoungFlags, HoldsRemembered}
-use Rattle.heap_parts.proofs.Members.{in-left, in-right, filter-agree, filter_map-agree}
 use Rattle.heap_parts.proofs.PlaceLaws.{young-is_in, old-is_in}
 use Rattle.heap_parts.proofs.SameLayouts.{SameLayouts, walk-same, whole-same}
 use Rattle.heap_parts.proofs.BlockLaws.{blocks-same}

@@ -1,48 +1,36 @@
 -- A reference is put into a settled object.
-use Rattle.std.proofs.Common.{◌≡◌, ◌≢◌, ℕ, zero, suc, ◌<◌, Bool, false, IsTrue, List, [], ◌∷◌, Option, Some, None, refl, sym, ap, ◌∙◌, subst, inl, inr}
-use Rattle.std.specs.Prelude.{filter_map, ◌==◌, ◌&&◌}
+use Rattle.std.proofs.Common.{◌≡◌, ◌≢◌, ℕ, ◌<◌, Bool, false, IsTrue, List, [], ◌∷◌, Option, refl, sym, ap, ◌∙◌, subst, inl, inr}
+use Rattle.std.specs.Prelude.{◌==◌, ◌&&◌}
 use Rattle.std.specs.List.{list_any}
 use Rattle.std.proofs.lemmas.Bool.{eq-eqb}
 use Rattle.std.proofs.lemmas.Bool.Decides.{eqb_tells}
-use Rattle.object_view.proofs.WordLaws.{is_in-head, is_in-tail}
+use Rattle.object_model.proofs.Members.{or_cases, or_first, or_second}
 use Rattle.store_model.specs.Store.{Store}
 use Rattle.object_model.specs.Sets.{is_in}
 use Rattle.store_model.specs.Slots.{held}
 use Rattle.store_model.specs.Steps.{put_ref}
-use Rattle.store_model.specs.Roots.{roots_of}
 use Rattle.object_model.specs.ObjectWords.{renamed}
 use Rattle.heap_parts.specs.Remembered.{Held, is_held_of, holds_item, with_whole}
 use Rattle.heap_parts.specs.Parts.{HeapParts, place_in}
 use Rattle.heap_parts.specs.Places.{old_places}
 use Rattle.heap_parts.specs.StandsFor.{PartsStandFor}
 use Rattle.heap_parts.specs.Effects.{with_barrier, with_word_at, ref_place, layout_in}
-use Rattle.heap_parts.proofs.Members.{in-left}
 use Rattle.heap_parts.proofs.SlotLaws.{held-named, slot-pointer}
-use Rattle.heap_parts.proofs.HeldLaws.{or-either, or-first, or-second, whole_here}
+use Rattle.heap_parts.proofs.HeldLaws.{whole_here}
 use Rattle.heap_parts.proofs.BarrierLaws.{barrier_stands}
 use Rattle.heap_parts.proofs.StandLaws.{link_stands}
-
-held-in : (slots : List (Option ℕ)) (slot y : ℕ) → held slots slot ≡ Some y → IsTrue (is_in y (filter_map (λ s. s) slots))
-held-in [] slot y e = absurd (let no : ⊥ = cc in no)
-held-in (None ∷ slots) zero y e = absurd (let no : ⊥ = cc in no)
-held-in (Some x ∷ slots) zero y e = let same : x ≡ y = cc in subst (λ (k : ℕ). IsTrue (is_in k (x ∷ filter_map (λ s. s) slots))) same (is_in-head x (filter_map (λ s. s) slots))
-held-in (None ∷ slots) (suc slot) y e = held-in slots slot y e
-held-in (Some x ∷ slots) (suc slot) y e = is_in-tail y x (filter_map (λ s. s) slots) (held-in slots slot y e)
-
--- what a slot holds is a root
-pub held_root : (store : Store) (slot y : ℕ) → held store.slots slot ≡ Some y → IsTrue (is_in y (roots_of store))
-held_root store slot y e = in-left y (filter_map (λ s. s) store.slots) _ (held-in store.slots slot y e)
+use Rattle.store_model.proofs.RootLaws.{held_root}
 
 whole-covers : (card : ℕ) (hs : List Held) (name : ℕ → ℕ) (p i : ℕ) → IsTrue (list_any (λ h. h.place == p && h.is_whole) hs)
     → IsTrue (list_any (λ h. name h.place == name p && holds_item card h i) hs)
 whole-covers card [] name p i t = t
-whole-covers card (h ∷ hs) name p i t = elim (or-either (h.place == p && h.is_whole) (list_any (λ g. g.place == p && g.is_whole) hs) t) [
-  | inl here ↦ or-first (name h.place == name p && holds_item card h i) (list_any (λ g. name g.place == name p && holds_item card g i) hs)
+whole-covers card (h ∷ hs) name p i t = elim (or_cases (h.place == p && h.is_whole) (list_any (λ g. g.place == p && g.is_whole) hs) t) [
+  | inl here ↦ or_first (name h.place == name p && holds_item card h i) (list_any (λ g. name g.place == name p && holds_item card g i) hs)
       (elim (eqb_tells h.place p) [
-        | inl e ↦ rw (eq-eqb (name h.place) (name p) (ap name e.1)) (let w : IsTrue h.is_whole = subst (λ (b : Bool). IsTrue (b && h.is_whole)) e.0 here in or-first h.is_whole _ w)
+        | inl e ↦ rw (eq-eqb (name h.place) (name p) (ap name e.1)) (let w : IsTrue h.is_whole = subst (λ (b : Bool). IsTrue (b && h.is_whole)) e.0 here in or_first h.is_whole _ w)
         | inr e ↦ absurd (let f : (h.place == p && h.is_whole) ≡ false = rw e.0 refl in let no : ⊥ = cc in no)
       ])
-  | inr there ↦ or-second (name h.place == name p && holds_item card h i) (list_any (λ g. name g.place == name p && holds_item card g i) hs) (whole-covers card hs name p i there)
+  | inr there ↦ or_second (name h.place == name p && holds_item card h i) (list_any (λ g. name g.place == name p && holds_item card g i) hs) (whole-covers card hs name p i there)
 ]
 
 -- The settled object in a slot is remembered, and then gets a reference to what another slot holds.

@@ -4,7 +4,7 @@ use Rattle.std.specs.Prelude.{◌==◌, ◌&&◌, not, slice_get, option_and_the
 use Rattle.std.specs.List.{list_any}
 use Rattle.std.proofs.lemmas.Bool.{cases_Bool, eq-eqb}
 use Rattle.std.proofs.lemmas.Bool.Decides.{eqb_tells}
-use Rattle.object_view.proofs.WordLaws.{is_in-head, is_in-tail}
+use Rattle.object_model.proofs.Members.{is_in-head, is_in-tail, or_cases, or_first, or_second}
 use Rattle.object_view.proofs.LayoutLaws.{laid_out}
 use Rattle.object_view.proofs.FoundLaws.{found-at, ref-from}
 use Rattle.object_model.specs.Object.{Object}
@@ -19,7 +19,6 @@ use Rattle.heap_parts.specs.Places.{is_young, old_places, AreAmong}
 use Rattle.heap_parts.specs.StandsFor.{PartsStandFor}
 use Rattle.heap_parts.proofs.SlotLaws.{pointer-some}
 use Rattle.heap_parts.proofs.PlaceLaws.{settled-old, old-is_in}
-use Rattle.heap_parts.proofs.HeldLaws.{or-either, or-first, or-second}
 
 -- an object is unsettled exactly where its place lies in the nursery
 pub settled_place : (heap : HeapParts) (store : Store) (s : PartsStandFor heap store) (p : ℕ) → IsTrue (is_in p s.places)
@@ -31,14 +30,14 @@ held-place : (card : ℕ) (hs : List Held) (name : ℕ → ℕ) (places : List �
     → IsTrue (list_any (λ h. name h.place == name p && holds_item card h i) hs) → IsTrue (list_any (λ h. h.place == p && holds_item card h i) hs)
 held-place card [] name places p i among differ t = t
 held-place card (h ∷ hs) name places p i among differ t =
-    elim (or-either (name h.place == name p && holds_item card h i) (list_any (λ g. name g.place == name p && holds_item card g i) hs) t) [
-      | inl here ↦ or-first (h.place == p && holds_item card h i) (list_any (λ g. g.place == p && holds_item card g i) hs)
+    elim (or_cases (name h.place == name p && holds_item card h i) (list_any (λ g. name g.place == name p && holds_item card g i) hs) t) [
+      | inl here ↦ or_first (h.place == p && holds_item card h i) (list_any (λ g. g.place == p && holds_item card g i) hs)
           (elim (eqb_tells (name h.place) (name p)) [
             | inl e ↦ rw (eq-eqb h.place p (differ h.place (among h.place (is_in-head h.place (map (λ (g : Held). g.place) hs))) e.1))
                 (subst (λ (b : Bool). IsTrue (b && holds_item card h i)) e.0 here)
             | inr e ↦ absurd (let f : (name h.place == name p && holds_item card h i) ≡ false = rw e.0 refl in let no : ⊥ = cc in no)
           ])
-      | inr there ↦ or-second (h.place == p && holds_item card h i) (list_any (λ g. g.place == p && holds_item card g i) hs)
+      | inr there ↦ or_second (h.place == p && holds_item card h i) (list_any (λ g. g.place == p && holds_item card g i) hs)
           (held-place card hs name places p i (λ q u. among q (is_in-tail q h.place (map (λ (g : Held). g.place) hs) u)) differ there)
     ]
 

@@ -14,7 +14,7 @@ use Rattle.heap_space.specs.Extents.{Extent, Each, IsApart, AreApart}
 use Rattle.object_view.specs.Births.{born_words}
 use Rattle.object_view.specs.Views.{HasObject}
 use Rattle.object_view.proofs.InitLaws.{two-words}
-use Rattle.object_view.proofs.WordLaws.{is_in-append}
+use Rattle.object_model.proofs.Members.{is_in-append, is_in-named}
 use Rattle.object_view.proofs.LayoutLaws.{laid_out}
 use Rattle.object_view.proofs.NewbornLaws.{BornAt, IsFree, IsHeaderOf, born-is, born-info, born-layout, born-first, birth_holds, free-unmet, request-names, more-pointers, length-born_words}
 use Rattle.object_view.proofs.WholeLaws.{born-written, has_object-born}
@@ -33,7 +33,7 @@ use Rattle.heap_parts.specs.Places.{is_young, young_places, old_places, block_at
 use Rattle.heap_parts.specs.Nursery.{HoldsNursery}
 use Rattle.heap_parts.specs.OldSpace.{reserved_blocks, blocks_of, is_waiting}
 use Rattle.heap_parts.specs.StandsFor.{PartsStandFor}
-use Rattle.heap_parts.proofs.Births.{rise-bounds, is_in-named}
+use Rattle.heap_parts.proofs.Births.{rise-bounds}
 use Rattle.heap_parts.proofs.Members.{each-left, each-right}
 use Rattle.heap_parts.proofs.PlaceLaws.{is_in-young, is_in-old, young-same, old-more}
 use Rattle.heap_parts.proofs.BlockLaws.{each-member}

@@ -28,10 +28,11 @@ use Rattle.heap_parts.specs.Lists.{named_entries}
 use Rattle.heap_parts.specs.StandsFor.{PartsStandFor}
 use Rattle.heap_parts.proofs.PlaceLaws.{young-is_in, settled-old, is_in-young}
 use Rattle.heap_parts.proofs.StandLaws.{in_slot}
-use Rattle.heap_parts.proofs.LinkLaws.{held_root}
-use Rattle.heap_parts.proofs.RootLaws.{are_roots, RootChange}
-use Rattle.heap_parts.proofs.HeaderLaws.{with_pins, pins_stand, pins_change}
-use Rattle.heap_parts.proofs.PinLaws.{keys, more-here, more-cases, more_sound, named-more, is_more}
+use Rattle.store_model.proofs.RootLaws.{held_root, are_roots, RootChange}
+use Rattle.heap_parts.proofs.HeaderLaws.{with_pins, pins_stand}
+use Rattle.store_model.proofs.RootChanges.{pins_change}
+use Rattle.heap_parts.proofs.PinLaws.{named-more}
+use Rattle.store_model.proofs.PinLaws.{keys, more-here, more-cases, more_sound, is_more}
 
 no-refs : (s : Shape) (p third : ℕ) → can_refer s ≡ false → (layout_of s p third).ref_count ≡ 0
 no-refs (Fixed a b) p third e = grind (arith, nat_tests)

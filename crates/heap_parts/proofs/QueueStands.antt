@@ -7,7 +7,7 @@ use Rattle.std.proofs.lemmas.Bool.Decides.{eqb_tells, nat_tests}
 use Rattle.std.proofs.lemmas.Map.Made.{lookup-map_values}
 use Rattle.type_table.specs.Table.{Table, KeysRise, value_at, with_value, without_key}
 use Rattle.type_table.proofs.TableLaws.{KeysRise-with_value, KeysRise-entries_where}
-use Rattle.object_view.proofs.WordLaws.{is_in-head, is_in-tail, is_in-nil, is_in-append}
+use Rattle.object_model.proofs.Members.{is_in-head, is_in-tail, is_in-nil, is_in-append, in-left, in-right, in-either}
 use Rattle.store_model.specs.Store.{Store}
 use Rattle.object_model.specs.Sets.{is_in}
 use Rattle.store_model.specs.Slots.{held}
@@ -18,15 +18,13 @@ use Rattle.store_model.specs.PlainCommands.{register_slot, registered_with, firs
 use Rattle.heap_parts.specs.Parts.{HeapParts, place_in}
 use Rattle.heap_parts.specs.Lists.{named_queues, HoldsSlots}
 use Rattle.heap_parts.specs.StandsFor.{PartsStandFor}
-use Rattle.heap_parts.proofs.Members.{in-left, in-right, in-either}
 use Rattle.heap_parts.proofs.StandLaws.{in_slot}
-use Rattle.heap_parts.proofs.LinkLaws.{held_root}
-use Rattle.heap_parts.proofs.SoundLaws.{CanBeRoot}
-use Rattle.heap_parts.proofs.RootLaws.{relieves_none, can_root, RootChange, roots_each, are_roots, set-in, queued_births, chosen_births}
+use Rattle.store_model.proofs.RootLaws.{held_root, relieves_none, can_root, RootChange, roots_each, are_roots, set-in, queued_births, chosen_births}
+use Rattle.store_model.proofs.SoundLaws.{CanBeRoot}
 use Rattle.heap_parts.proofs.RootStands.{rooted_stands, slots-set}
 use Rattle.heap_parts.proofs.ReviveStands.{place_or_nil, renamed-full}
-use Rattle.heap_parts.proofs.BirthSound.{distinct-insert}
-use Rattle.heap_parts.proofs.Times.{once_less, times_first}
+use Rattle.store_model.proofs.BirthSound.{distinct-insert}
+use Rattle.store_model.proofs.Times.{once_less, times_first}
 
 -- the heap with one registered object more
 abbrev pub with_registered : HeapParts → ℕ → ℕ → HeapParts

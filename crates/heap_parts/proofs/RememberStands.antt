@@ -20,7 +20,7 @@ use Rattle.heap_parts.proofs.KeepWords.{firsts-stay}
 use Rattle.heap_parts.proofs.BarrierLaws.{firsts-but}
 use Rattle.heap_parts.proofs.HeaderLaws.{header_is}
 use Rattle.heap_parts.proofs.HeldLaws.{held_settled}
-use Rattle.heap_parts.proofs.OrderLaws.{plain_in_order}
+use Rattle.store_model.proofs.OrderLaws.{plain_in_order}
 
 -- more is remembered of the object at a place, and no less of others
 pub record RemembersMore (old new : Remembered) (p : ℕ) : Type 0 where

@@ -1,5 +1,5 @@
 -- A home is reserved for an object of the nursery, in a block that was taken for it.
-use Rattle.std.proofs.Common.{◌≡◌, ◌≢◌, ℕ, ◌%◌, ◌≤◌, ◌⊎◌, Bool, true, false, IsTrue, nat_eq, List, [], ◌∷◌, ◌++◌, map, Option, Some, None, refl, sym, ap, ap₂, ◌∙◌, subst, inl, inr, arith, append-nil}
+use Rattle.std.proofs.Common.{◌≡◌, ◌≢◌, ℕ, ◌%◌, ◌≤◌, Bool, true, false, IsTrue, nat_eq, List, [], ◌∷◌, ◌++◌, map, Option, Some, None, refl, sym, ap, ap₂, ◌∙◌, subst, inl, inr, arith, append-nil}
 use Rattle.std.specs.Prelude.{filter, filter_map, option_map, ◌==◌, cond, is_some}
 use Rattle.std.specs.List.{IsDistinct, AllByRecursion, cons_option}
 use Rattle.std.specs.List.Sorted.{IsPermutation}
@@ -12,14 +12,15 @@ use Rattle.std.proofs.lemmas.Bool.{cases_Bool, eq-eqb, ne_eqb}
 use Rattle.std.proofs.lemmas.Bool.Decides.{eqb_tells, nat_tests}
 use Rattle.type_table.specs.declared.info.TypeInfo.{TypeInfo}
 use Rattle.type_table.specs.Table.{value_at, with_value}
-use Rattle.type_table.proofs.TableLaws.{value_at-with_value, KeysRise-with_value}
+use Rattle.type_table.proofs.TableLaws.{value_at-with_value}
 use Rattle.heap_space.specs.Places.{has, with_word, word_at}
 use Rattle.heap_space.specs.Memory.{Memory}
 use Rattle.heap_space.specs.Extents.{Extent, Each, IsApart, AreApart}
 use Rattle.heap_space.proofs.Blocks.{lies-with_word}
 use Rattle.object_header.specs.Words.{has_flag}
 use Rattle.object_header.specs.declared.flags.Flag.TheVariants.{HasShadow, Pinned, HasCards}
-use Rattle.object_view.proofs.WordLaws.{is_in-head, is_in-tail, is_in-cases, is_in-nil, is_in-append, updated-here, updated-other}
+use Rattle.object_view.proofs.WordLaws.{updated-here, updated-other}
+use Rattle.object_model.proofs.Members.{is_in-head, is_in-tail, is_in-cases, is_in-nil, is_in-append, filter_map-agree, in-either}
 use Rattle.object_view.proofs.LayoutLaws.{laid_out, info_at-same}
 use Rattle.object_view.proofs.SpaceLaws.{word_at-written, lies-at}
 use Rattle.object_view.proofs.FrameLaws.{header_holds}
@@ -31,30 +32,20 @@ use Rattle.store_model.specs.Store.{Store}
 use Rattle.object_model.specs.Sets.{is_in}
 use Rattle.object_model.specs.ObjectWords.{updated, words_at}
 use Rattle.object_model.specs.Holds.{HoldsObjects}
-use Rattle.store_model.specs.Sound.{IsSound, IsPhaseSound, births_in}
-use Rattle.object_model.specs.declared.settings.Settings.{Settings}
-use Rattle.text_model.specs.declared.line.Phase.{Phase}
-use Rattle.text_model.specs.declared.line.Phase.TheVariants.{Scanning, Marking, Sweeping, Finalizing}
+use Rattle.store_model.specs.Sound.{IsSound}
 use Rattle.heap_parts.specs.Parts.{HeapParts, word_in, home_in}
 use Rattle.heap_parts.specs.Places.{is_young, young_places, old_places, block_at}
 use Rattle.heap_parts.specs.OldSpace.{reserved_block, reserved_blocks, reserved_homes}
 use Rattle.heap_parts.specs.Headers.{IsYoungHeader, IsShadowHeader, keeps_cards}
 use Rattle.heap_parts.specs.StandsFor.{PartsStandFor, HoldsWords}
 use Rattle.heap_parts.proofs.Births.{rise-differ}
-use Rattle.heap_parts.proofs.Members.{filter_map-agree, each-left, each-right, in-either}
+use Rattle.heap_parts.proofs.Members.{each-left, each-right}
 use Rattle.heap_parts.proofs.BlockLaws.{each-member}
 use Rattle.heap_parts.proofs.PlaceLaws.{young-is_in, old-is_in}
 use Rattle.heap_parts.proofs.KeepWords.{SameObjects, words_kept, firsts-stay}
 use Rattle.heap_parts.proofs.WriteWords.{each-imp, each-both, each-reserved, header_written, husk_first, shadow_first, blocks_written}
 use Rattle.heap_parts.proofs.TakeLaws.{MemoryKeeps, memory_same, memory_kept}
-
--- what differs from a birth is not it
-pub differ-in : (x : ℕ) (ps : List ℕ) → AllByRecursion (λ y. nat_eq x y ≡ false) ps → IsTrue (is_in x ps) → ⊥
-differ-in x [] all t = is_in-nil x t
-differ-in x (p ∷ ps) all t = elim (is_in-cases x p ps t) [
-  | inl e ↦ (let same : nat_eq x p ≡ true = eq-eqb x p e in let apart = all.0 in let no : ⊥ = cc in no)
-  | inr u ↦ differ-in x ps all.1 u
-]
+use Rattle.object_model.proofs.Distinct.{differ-in}
 
 all-unnamed : (name : ℕ → ℕ) (x : ℕ) (test : ℕ → Bool) (ps : List ℕ) → AllByRecursion (λ y. nat_eq (name x) y ≡ false) (map name ps) → AllByRecursion (λ y. nat_eq x y ≡ false) (filter test ps)
 all-unnamed name x test [] all = tt
@@ -263,55 +254,6 @@ reserve_stands heap store s memory old_blocks p x at keeps t none shadow type yo
       order = s.order;
       sound = sound;
     }
-
--- the store with one home more is sound, where nobody else has it
-pub home_sound : {settings : Settings} {store : Store} (birth at : ℕ) → IsSound settings store → value_at store.homes birth ≡ None → ((other : ℕ) → value_at store.homes other ≡ Some at → ⊥)
-    → IsTrue (is_in birth (births_in store)) → IsSound settings (record store { homes = with_value store.homes birth at })
-home_sound {settings = settings} {store = store} birth at s new free there = record {
-  fields = s.fields;
-  settled = s.settled;
-  roots = s.roots;
-  registered = s.registered;
-  pins = s.pins;
-  queues_rise = s.queues_rise;
-  once = s.once;
-  waiting = s.waiting;
-  roots_reached = s.roots_reached;
-  unreached_cut_off = s.unreached_cut_off;
-  unreached_born = s.unreached_born;
-  roots_retained = s.roots_retained;
-  registered_retained = s.registered_retained;
-  doomed_cut_off = s.doomed_cut_off;
-  doomed_born = s.doomed_born;
-  phase = phase-home settings.sweep store.phase s.phase;
-  links = s.links;
-  births = record {
-    next_above = s.births.next_above;
-    homes_rise = KeysRise-with_value store.homes birth at s.births.homes_rise;
-    born = s.births.born;
-    differ = s.births.differ;
-    homes_differ = λ x y place e f. elim (home-cases x place e) [
-      | inl a ↦ elim (home-cases y place f) [ inl b ↦ a.0 ∙ sym b.0 | inr b ↦ absurd (free y (b ∙ ap Some a.1)) ]
-      | inr a ↦ elim (home-cases y place f) [ inl b ↦ absurd (free x (a ∙ ap Some b.1)) | inr b ↦ s.births.homes_differ x y place a b ]
-    ];
-    housed = λ x place e. elim (home-cases x place e) [
-      | inl a ↦ subst (λ (k : ℕ). IsTrue (is_in k (births_in store))) (sym a.0) there
-      | inr a ↦ s.births.housed x place a
-    ];
-  };
-}
-  where
-    home-cases : (x place : ℕ) → value_at (with_value store.homes birth at) x ≡ Some place → ((x ≡ birth) × (place ≡ at)) ⊎ (value_at store.homes x ≡ Some place)
-    home-cases x place e = elim (eqb_tells x birth) [
-      | inl is ↦ inl (is.1, (let both : Some at ≡ Some place = sym (value_at-with_value store.homes birth x at ∙ ap (λ (b : Bool). cond b (Some at) (value_at store.homes x)) is.0) ∙ e in let same : place ≡ at = cc in same))
-      | inr is ↦ inr (sym (value_at-with_value store.homes birth x at ∙ ap (λ (b : Bool). cond b (Some at) (value_at store.homes x)) is.0) ∙ e)
-    ]
-
-    phase-home : (sweep : ℕ) (phase : Phase) → IsPhaseSound phase sweep store → IsPhaseSound phase sweep (record store { homes = with_value store.homes birth at })
-    phase-home sweep Scanning h = h
-    phase-home sweep Marking h = h
-    phase-home sweep Sweeping h = h
-    phase-home sweep Finalizing h = h
 
 -- a block that is told last is apart from those before it
 pub last-apart : (xs : List Extent) (y : Extent) → AreApart (xs ++ y ∷ []) → Each (λ x. IsApart x y) xs

@@ -20,8 +20,9 @@ use Rattle.heap_parts.specs.StandsFor.{PartsStandFor}
 use Rattle.heap_parts.specs.Effects.{with_slot, layout_in}
 use Rattle.heap_parts.proofs.SlotLaws.{pointer-some}
 use Rattle.heap_parts.proofs.StandLaws.{in_slot}
-use Rattle.heap_parts.proofs.SoundLaws.{CanBeRoot}
-use Rattle.heap_parts.proofs.ReachLaws.{revived_by, tells_revived, relieves_revived, can_revived}
+use Rattle.store_model.proofs.SoundLaws.{CanBeRoot}
+use Rattle.store_model.proofs.Rounds.{revived_by, tells_revived}
+use Rattle.store_model.proofs.ReachLaws.{relieves_revived, can_revived}
 use Rattle.heap_parts.proofs.RootStands.{slot_stands, object-found}
 use Rattle.heap_parts.proofs.StructStands.{struct-named}
 

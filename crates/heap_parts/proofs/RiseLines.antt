@@ -1,9 +1,9 @@
 -- Births that are told by rising birth: what code sorted is what the store lists.
-use Rattle.std.proofs.Common.{◌≡◌, ℕ, suc, ◌+◌, ◌≤◌, ◌<◌, ◌⊎◌, false, IsTrue, List, [], ◌∷◌, map, refl, sym, ap, ◌∙◌, subst, inl, inr, arith}
+use Rattle.std.proofs.Common.{◌≡◌, ℕ, suc, ◌+◌, ◌≤◌, ◌<◌, ◌⊎◌, false, IsTrue, List, [], ◌∷◌, map, refl, sym, ap, ◌∙◌, subst, inl, inr, arith, length, get_or, nat_eq}
 use Rattle.std.specs.Prelude.{◌==◌}
 use Rattle.std.proofs.lemmas.Bool.{cases_Bool, ne_eqb}
-use Rattle.std.proofs.lemmas.Bool.Decides.{eqb_tells}
-use Rattle.object_view.proofs.WordLaws.{is_in-head, is_in-tail, is_in-cases, is_in-nil}
+use Rattle.std.proofs.lemmas.Bool.Decides.{eqb_tells, nat_tests}
+use Rattle.object_model.proofs.Members.{is_in-head, is_in-tail, is_in-cases, is_in-nil}
 use Rattle.object_model.specs.Sets.{is_in}
 use Rattle.heap_parts.specs.Places.{RiseBetween}
 use Rattle.heap_parts.proofs.Births.{rise-bounds, rise-differ, rise-lower}
@@ -14,8 +14,6 @@ use Rattle.std.specs.List.{IsDistinct, AllByRecursion, All}
 use Rattle.std.specs.List.Sorted.{IsPermutation, IsNonDecreasing}
 use Rattle.std.proofs.lemmas.List.Sorted.{IsPermutation-sym, IsPermutation-trans, list_any-IsPermutation}
 use Rattle.std.proofs.lemmas.Map.Keys.{IsDistinct-IsPermutation}
-use Rattle.std.proofs.lemmas.Bool.Decides.{nat_tests}
-use Rattle.std.proofs.Common.{length, get_or, nat_eq}
 
 out-below : (x least next : ℕ) (xs : List ℕ) → x < least → RiseBetween least xs next → is_in x xs ≡ false
 out-below x least next xs l rise = elim (cases_Bool (is_in x xs)) [

@@ -2,16 +2,15 @@
 use Rattle.std.proofs.Common.{◌≡◌, ◌≢◌, ℕ, zero, suc, ◌<◌, ◌⊎◌, IsTrue, List, [], ◌∷◌, Option, Some, None, refl, sym, ap, ◌∙◌, subst, inl, inr}
 use Rattle.std.specs.Prelude.{filter_map, slice_set, option_and_then}
 use Rattle.std.proofs.lemmas.List.{length-set, map-set}
-use Rattle.object_view.proofs.WordLaws.{is_in-head, is_in-tail, is_in-cases}
+use Rattle.object_model.proofs.Members.{is_in-head, is_in-tail, is_in-cases}
 use Rattle.object_view.proofs.FoundLaws.{found-at, ref-from, ref-pointer}
-use Rattle.object_model.specs.declared.settings.Settings.{Settings}
 use Rattle.object_model.specs.Object.{Object, object_at}
 use Rattle.store_model.specs.Store.{Store}
 use Rattle.object_model.specs.Sets.{is_in}
 use Rattle.store_model.specs.Slots.{held, object_in, put_in_slot}
 use Rattle.object_model.specs.Fields.{refs_of, ref_in}
 use Rattle.store_model.specs.Steps.{ref_at}
-use Rattle.store_model.specs.Roots.{roots_of, referents_in}
+use Rattle.store_model.specs.Roots.{referents_in}
 use Rattle.store_model.specs.Sound.{IsSound}
 use Rattle.object_model.specs.ObjectWords.{renamed, object_from}
 use Rattle.object_model.specs.Holds.{IsPointer}
@@ -22,9 +21,9 @@ use Rattle.heap_parts.specs.StandsFor.{PartsStandFor, HoldsFinalizers}
 use Rattle.heap_parts.specs.Effects.{with_slot, ref_place, layout_in}
 use Rattle.heap_parts.proofs.SlotLaws.{held-named, slot-pointer}
 use Rattle.heap_parts.proofs.StandLaws.{in_slot}
-use Rattle.heap_parts.proofs.LinkLaws.{held_root}
-use Rattle.heap_parts.proofs.SoundLaws.{CanBeRoot}
-use Rattle.heap_parts.proofs.RootLaws.{Relieves, relieves_none, can_root, can_refer, can_relieved, RootChange, sound_rerooted, order_relieved, roots_each, are_roots, set-in, not-in}
+use Rattle.store_model.proofs.RootLaws.{held_root, Relieves, relieves_none, can_root, can_refer, RootChange, sound_rerooted, order_relieved}
+use Rattle.store_model.proofs.SoundLaws.{CanBeRoot}
+use Rattle.store_model.proofs.RootChanges.{slot_change}
 
 -- the heap with what leads to objects in another one
 abbrev pub with_lists : HeapParts → HeapParts → HeapParts
@@ -71,33 +70,6 @@ rooted_stands {heap = heap} {new = new} {store = store} {after = after} s only c
       order = order_relieved change.relieves.unreached_less s.order;
       sound = subst (IsSound heap.setup.settings) change.only (sound_rerooted change s.sound);
     }))
-
--- A slot changes, and what it leads to then may be a root.
-pub slot_change : {settings : Settings} {store : Store} (root : ℕ) (birth : Option ℕ) (unreached doomed : List ℕ) → IsSound settings store
-    → Relieves store.kept store.unreached store.doomed unreached doomed
-    → ((y : ℕ) → birth ≡ Some y → CanBeRoot store.kept unreached doomed y)
-    → RootChange settings store (record store { slots = slice_set store.slots root birth; unreached = unreached; doomed = doomed })
-slot_change {settings = settings} {store = store} root birth unreached doomed s r can =
-    let after : Store = record store { slots = slice_set store.slots root birth; unreached = unreached; doomed = doomed } in
-    let was = are_roots store in
-    let old : (x : ℕ) → IsTrue (is_in x (roots_of store)) → CanBeRoot store.kept unreached doomed x = λ x t. can_relieved r x (can_root s x t) in
-    record {
-      only = refl;
-      relieves = r;
-      roots = λ x t. roots_each {store = after} {P = CanBeRoot store.kept unreached doomed} (record {
-        slot = λ y u. elim (set-in store.slots root birth y u) [ inl e ↦ can y e | inr v ↦ old y (was.slot y v) ];
-        pin = λ y u. old y (was.pin y u);
-        choice = λ y u. old y (was.choice y u);
-        queue = λ y u. old y (was.queue y u);
-        force = λ y u. old y (was.force y u);
-      }) x t;
-      registered = λ x t. (s.registered x t, (let fewer = r.doomed_less in not-in doomed store.doomed x fewer (s.registered_retained x t)));
-      pins = s.pins;
-      queues_rise = s.queues_rise;
-      once = s.once;
-      waiting = s.waiting;
-      links = s.links;
-    }
 
 is_in-set : (x y i : ℕ) (xs : List ℕ) → IsTrue (is_in x (slice_set xs i y)) → (x ≡ y) ⊎ IsTrue (is_in x xs)
 is_in-set x y i [] t = inr t

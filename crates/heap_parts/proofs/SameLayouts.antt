@@ -6,7 +6,7 @@ use Rattle.type_table.specs.declared.info.TypeInfo.{TypeInfo}
 use Rattle.type_table.specs.Table.{Table, value_at}
 use Rattle.heap_space.specs.Places.{lies_in_one, word_at}
 use Rattle.heap_space.specs.Memory.{Memory}
-use Rattle.object_view.proofs.WordLaws.{is_in-head, is_in-tail}
+use Rattle.object_model.proofs.Members.{is_in-head, is_in-tail}
 use Rattle.object_view.proofs.LayoutLaws.{KeepsLayout}
 use Rattle.object_model.specs.Sets.{is_in}
 use Rattle.object_model.specs.Layout.{Layout}

@@ -5,7 +5,7 @@ use Rattle.object_model.specs.Sets.{is_in}
 use Rattle.store_model.specs.Slots.{held}
 use Rattle.object_model.specs.ObjectWords.{renamed}
 use Rattle.object_model.specs.Holds.{IsPointer}
-use Rattle.object_view.proofs.WordLaws.{is_in-head, is_in-tail}
+use Rattle.object_model.proofs.Members.{is_in-head, is_in-tail}
 
 -- a pointer that is not nil is a place
 pub pointer-some : (met : List ℕ) (place : ℕ) → IsPointer met place → place ≢ 0 → IsTrue (is_in place met)

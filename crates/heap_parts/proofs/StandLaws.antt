@@ -26,9 +26,9 @@ use Rattle.heap_parts.proofs.PlaceLaws.{placed_words, young-is_in, old-is_in}
 use Rattle.heap_parts.proofs.SameLayouts.{SameLayouts, sum-same}
 use Rattle.heap_parts.proofs.KeepWords.{SameWords, headers_kept, young_flags_kept, remembered_kept, old-firsts, firsts-stay, words_kept}
 use Rattle.heap_parts.proofs.WriteWords.{same_written, blocks_written}
-use Rattle.heap_parts.proofs.FieldChanges.{IsFieldChange, int_change, ref_change, same_but_for, items_changed}
-use Rattle.heap_parts.proofs.SoundLaws.{CanBeRoot, sound_after}
-use Rattle.heap_parts.proofs.OrderLaws.{plain_in_order}
+use Rattle.store_model.proofs.FieldChanges.{IsFieldChange, int_change, ref_change, same_but_for, items_changed}
+use Rattle.store_model.proofs.SoundLaws.{CanBeRoot, sound_after}
+use Rattle.store_model.proofs.OrderLaws.{plain_in_order}
 use Rattle.heap_parts.proofs.SlotLaws.{held-named, slot-pointer, pointer-some}
 
 -- the numbers of words are those of the same objects, of which one may have changed within its layout

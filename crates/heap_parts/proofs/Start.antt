@@ -1,10 +1,7 @@
 -- A heap that was just started stands for the empty store.
 use Rattle.std.proofs.Common.{◌≡◌, ℕ, zero, suc, ◌*◌, IsTrue, List, [], ◌∷◌, length, map, replicate, Option, Some, None, refl, sym, ap, subst, inl, inr, arith, lit<}
-use Rattle.std.specs.Prelude.{filter_map}
 use Rattle.std.specs.FinMap as map
 use Rattle.std.specs.Ordering.{nat_cmp}
-use Rattle.std.specs.List.{IsDistinct}
-use Rattle.std.proofs.lemmas.List.Elements.{All-nil}
 use Rattle.std.proofs.lemmas.Bool.Decides.{nat_tests}
 use Rattle.std.proofs.lemmas.List.Sorted.{IsPermutation-refl}
 use lib.ListN.{length-replicate}
@@ -14,75 +11,18 @@ use Rattle.old_space.specs.HasBlocks.{HasBlocks, greatest_small}
 use Rattle.old_space.specs.declared.Old.{Old}
 use Rattle.type_table.specs.declared.info.TypeInfo.{TypeInfo}
 use Rattle.type_table.specs.Table.{Table}
-use Rattle.object_view.proofs.WordLaws.{is_in-cases, is_in-nil}
+use Rattle.object_model.proofs.Members.{is_in-cases, is_in-nil}
 use Rattle.object_view.proofs.FrameLaws.{none_hold}
 use Rattle.object_model.specs.declared.settings.Settings.{Settings}
 use Rattle.object_model.specs.Setup.{small_words}
 use Rattle.store_model.specs.Store.{empty_store}
 use Rattle.object_model.specs.Sets.{is_in}
 use Rattle.object_model.specs.SettingRanges.{AreInRange}
-use Rattle.store_model.specs.Roots.{roots_of}
-use Rattle.store_model.specs.Sound.{IsSound}
 use Rattle.object_model.specs.ObjectWords.{renamed}
 use Rattle.object_model.specs.Holds.{IsPointer}
 use Rattle.heap_parts.specs.Parts.{HeapParts, started_parts, AreFresh, word_in}
 use Rattle.heap_parts.specs.StandsFor.{PartsStandFor}
-
-none : (x : ℕ) {A : Type 0} → IsTrue (is_in x []) → A
-none x t = absurd (is_in-nil x t)
-
-no-births : (roots : ℕ) → filter_map (λ (s : Option ℕ). s) (replicate roots None) ≡ []
-no-births zero = refl
-no-births (suc roots) = no-births roots
-
-no-roots : (settings : Settings) → roots_of (empty_store settings) ≡ []
-no-roots settings = rw (no-births settings.roots) refl
-
--- the empty store is sound
-pub empty_sound : (settings : Settings) → IsSound settings (empty_store settings)
-unfolding IsDistinct
-empty_sound settings = record {
-  fields = record { references = λ x y t. none y t; targets = λ x t e. absurd (let no : ⊥ = cc in no) };
-  settled = λ x t. none x t;
-  roots = λ x t. none x (subst (λ (xs : List ℕ). IsTrue (is_in x xs)) (no-roots settings) t);
-  registered = λ x t. none x t;
-  pins = record {
-    differ = tt;
-    few = omega arith;
-    counted = All-nil _;
-    unsettled = λ x t. none x t;
-    no_references = λ x t. none x t;
-    no_target = λ x t. none x t;
-  };
-  queues_rise = (λ i j d below within. absurd (let no : ⊥ = omega (arith, within) in no));
-  once = tt;
-  waiting = λ x t. none x t;
-  roots_reached = λ x t. refl;
-  unreached_cut_off = λ x k f y t. refl;
-  unreached_born = λ x t. none x t;
-  roots_retained = λ x t. refl;
-  registered_retained = λ x t. refl;
-  doomed_cut_off = λ x k f y t. refl;
-  doomed_born = λ x t. none x t;
-  phase = (refl, refl, record { no_visited = refl; no_unreached = refl });
-  links = record {
-    rises = (λ i j d below within. absurd (let no : ⊥ = omega (arith, within) in no));
-    objects = λ n x e. absurd (let no : ⊥ = cc in no);
-    one_p_link = λ n m x e f. absurd (let no : ⊥ = cc in no);
-    dead_once = tt;
-    dead_pending = λ n t. none n t;
-    pending_dead = λ n e. absurd (let no : ⊥ = cc in no);
-    in_range = λ n s e. absurd (let no : ⊥ = cc in no);
-  };
-  births = record {
-    next_above = omega arith;
-    homes_rise = (λ i j d below within. absurd (let no : ⊥ = omega (arith, within) in no));
-    born = λ x t. none x t;
-    differ = tt;
-    homes_differ = λ x y p e f. absurd (let no : ⊥ = cc in no);
-    housed = λ x p e. absurd (let no : ⊥ = cc in no);
-  };
-}
+use Rattle.store_model.proofs.EmptySound.{none, empty_sound}
 
 nil-slots : (roots : ℕ) → replicate roots None ≡ map (renamed (λ (p : ℕ). p)) (replicate roots 0)
 nil-slots zero = refl

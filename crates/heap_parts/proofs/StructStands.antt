@@ -5,24 +5,24 @@ use Rattle.std.proofs.lemmas.Bool.{cases_Bool, ne_eqb}
 use Rattle.std.proofs.lemmas.Bool.Decides.{eqb_tells}
 use Rattle.type_table.specs.Table.{Table, value_at, with_value}
 use Rattle.type_table.proofs.TableLaws.{value_at-with_value, KeysRise-with_value}
-use Rattle.object_model.specs.declared.settings.Settings.{Settings}
 use Rattle.object_model.specs.Object.{Object}
 use Rattle.store_model.specs.Store.{Store, Struct, Linked, Unlinked, Pending}
 use Rattle.object_model.specs.Sets.{is_in}
-use Rattle.store_model.specs.Roots.{is_kept, roots_of}
+use Rattle.store_model.specs.Roots.{is_kept}
 use Rattle.store_model.specs.Structs.{Structs, object_of, forced_object, with_object, with_objects, raised}
-use Rattle.store_model.specs.Sound.{IsSound, AreLinksSound, p_linked_object, IsOwnSound}
+use Rattle.store_model.specs.Sound.{AreLinksSound, p_linked_object, IsOwnSound}
 use Rattle.store_model.specs.PlainCommands.{link_struct, structs_linked, raise_struct, raised_at, forced_anew, Revives, without_revived}
 use Rattle.heap_parts.specs.Parts.{HeapParts, place_in}
 use Rattle.heap_parts.specs.Lists.{HoldsLinks}
 use Rattle.heap_parts.specs.StandsFor.{PartsStandFor}
 use Rattle.heap_parts.proofs.StandLaws.{in_slot}
-use Rattle.heap_parts.proofs.LinkLaws.{held_root}
-use Rattle.heap_parts.proofs.SoundLaws.{CanBeRoot}
-use Rattle.heap_parts.proofs.RootLaws.{Relieves, relieves_none, can_root, can_relieved, RootChange, roots_each, are_roots, not-in}
-use Rattle.heap_parts.proofs.ReachLaws.{revived_by, tells_revived, relieves_revived, can_revived}
+use Rattle.store_model.proofs.RootLaws.{held_root, Relieves, relieves_none, can_root, can_relieved, are_roots}
+use Rattle.store_model.proofs.SoundLaws.{CanBeRoot}
+use Rattle.store_model.proofs.Rounds.{revived_by, tells_revived}
+use Rattle.store_model.proofs.ReachLaws.{relieves_revived, can_revived}
 use Rattle.heap_parts.proofs.RootStands.{rooted_stands}
-use Rattle.heap_parts.proofs.StructLaws.{PutsAt, links_put, forced-put, forced-found, value_at-objects, with_value-objects}
+use Rattle.store_model.proofs.StructLaws.{PutsAt, forced-found, value_at-objects, with_value-objects}
+use Rattle.store_model.proofs.RootChanges.{struct_change}
 
 -- the own count may rise: it has one, and it is below the greatest
 abbrev pub CanRise : Struct → Type 0
@@ -39,34 +39,6 @@ CanFall Pending = ⊥
 -- the heap with other structures
 abbrev pub with_links : HeapParts → Structs → HeapParts
 with_links heap links = record heap { links = links }
-
--- A structure changes, and what it keeps may be a root.
-pub struct_change : {settings : Settings} {store : Store} {after : Table Struct} {left : List ℕ} {number : ℕ} {found : Option Struct} (unreached doomed : List ℕ)
-    → IsSound settings store → PutsAt store.kept store.structs store.dead after left number found
-    → Relieves store.kept store.unreached store.doomed unreached doomed
-    → ((x : ℕ) → option_and_then forced_object found ≡ Some x → CanBeRoot store.kept unreached doomed x)
-    → RootChange settings store (record store { structs = after; dead = left; unreached = unreached; doomed = doomed })
-struct_change {settings = settings} {store = store} {after = after} {left = left} unreached doomed s p r can =
-    let new : Store = record store { structs = after; dead = left; unreached = unreached; doomed = doomed } in
-    let was = are_roots store in
-    let old : (x : ℕ) → IsTrue (is_in x (roots_of store)) → CanBeRoot store.kept unreached doomed x = λ x t. can_relieved r x (can_root s x t) in
-    record {
-      only = refl;
-      relieves = r;
-      roots = λ x t. roots_each {store = new} {P = CanBeRoot store.kept unreached doomed} (record {
-        slot = λ y u. old y (was.slot y u);
-        pin = λ y u. old y (was.pin y u);
-        choice = λ y u. old y (was.choice y u);
-        queue = λ y u. old y (was.queue y u);
-        force = λ y u. elim (forced-put p y u) [ inl e ↦ can y e | inr v ↦ old y (was.force y v) ];
-      }) x t;
-      registered = λ x t. (s.registered x t, not-in doomed store.doomed x r.doomed_less (s.registered_retained x t));
-      pins = s.pins;
-      queues_rise = s.queues_rise;
-      once = s.once;
-      waiting = s.waiting;
-      links = links_put p s.links;
-    }
 
 -- the structures of the heap, of which one changed
 pub links_held : {links : Structs} {places : List ℕ} {name : ℕ → ℕ} {structs : Table Struct} {dead : List ℕ} (number : ℕ) (after : Table Struct) (left : List ℕ) (found : Option Struct)

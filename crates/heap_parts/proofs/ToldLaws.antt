@@ -3,14 +3,14 @@ use Rattle.std.proofs.Common.{◌≡◌, ℕ, Bool, IsTrue, List, [], ◌∷◌,
 use Rattle.std.specs.Prelude.{option_and_then, ◌==◌, ◌&&◌, ◌||◌}
 use Rattle.std.proofs.lemmas.Bool.{cases_Bool, eq-eqb, ne_eqb}
 use Rattle.std.proofs.lemmas.Bool.Decides.{eqb_tells, nat_tests}
-use Rattle.object_view.proofs.WordLaws.{is_in-head, is_in-tail}
+use Rattle.object_model.proofs.Members.{is_in-head, is_in-tail}
 use Rattle.type_table.specs.Table.{Table, KeysRise, value_at}
 use Rattle.type_table.proofs.TableLaws.{KeysRise-tail}
 use Rattle.store_model.specs.Store.{Struct, Linked, Unlinked, Pending}
 use Rattle.object_model.specs.Sets.{is_in}
 use Rattle.store_model.specs.StructChecks.{is_p_link_of}
 use Rattle.store_model.specs.Structs.{object_of, p_link_of, with_object, with_objects}
-use Rattle.heap_parts.proofs.StructLaws.{behind-first, first-value}
+use Rattle.store_model.proofs.StructLaws.{behind-first, first-value}
 
 -- names that differ on places
 abbrev pub OneNamed : (ℕ → ℕ) → List ℕ → Type 0

@@ -16,10 +16,12 @@ use Rattle.heap_parts.specs.Lists.{named_entries}
 use Rattle.heap_parts.specs.StandsFor.{PartsStandFor}
 use Rattle.heap_parts.proofs.PlaceLaws.{young-is_in}
 use Rattle.heap_parts.proofs.StandLaws.{in_slot}
-use Rattle.heap_parts.proofs.RootLaws.{are_roots, RootChange}
-use Rattle.heap_parts.proofs.HeaderLaws.{with_pins, pins_stand, pins_change}
-use Rattle.heap_parts.proofs.PinLaws.{keys, less-in, named-less}
-use Rattle.heap_parts.proofs.UnpinLaws.{less_sound, less-here, less-other}
+use Rattle.store_model.proofs.RootLaws.{are_roots, RootChange}
+use Rattle.heap_parts.proofs.HeaderLaws.{with_pins, pins_stand}
+use Rattle.store_model.proofs.RootChanges.{pins_change}
+use Rattle.heap_parts.proofs.PinLaws.{named-less}
+use Rattle.store_model.proofs.PinLaws.{keys, less-in}
+use Rattle.store_model.proofs.UnpinLaws.{less_sound, less-here, less-other}
 
 unpinned-header : (word : ℕ) → IsYoungHeader word → IsYoungHeader (without_flag word Pinned)
 unpinned-header word h =

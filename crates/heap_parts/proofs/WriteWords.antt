@@ -12,7 +12,8 @@ use Rattle.heap_space.specs.Extents.{Extent, Each, IsApart, IsOutside, IsUntouch
 use Rattle.heap_space.proofs.Blocks.{word_at-elsewhere}
 use Rattle.heap_space.proofs.ExtentLaws.{extents-with_word}
 use Rattle.nursery_gaps.specs.Nursery.{Layout as NurseryLayout}
-use Rattle.object_view.proofs.WordLaws.{updated-other, is_in-cases, is_in-nil}
+use Rattle.object_view.proofs.WordLaws.{updated-other}
+use Rattle.object_model.proofs.Members.{is_in-cases, is_in-nil}
 use Rattle.object_view.proofs.LayoutLaws.{KeepsLayout, SameAt, laid_out, keeps-same}
 use Rattle.object_view.proofs.FrameLaws.{keeps-header}
 use Rattle.object_view.proofs.ChangeLaws.{Changes, each-keeps}

@@ -23,7 +23,7 @@ use Rattle.object_header.specs.declared.flags.Flag.TheVariants.{Track, Visited, 
 use Rattle.object_header.proofs.HeaderLaws.{has_flag-type}
 use Rattle.object_view.specs.Births.{born_words}
 use Rattle.object_view.proofs.InitLaws.{two-words, lies-part}
-use Rattle.object_view.proofs.WordLaws.{is_in-cases, is_in-nil, is_in-append}
+use Rattle.object_model.proofs.Members.{is_in-cases, is_in-nil, is_in-append, in-either, is_in-named}
 use Rattle.object_view.proofs.LayoutLaws.{SameAt, laid_out, keeps-same}
 use Rattle.object_view.proofs.NewbornLaws.{BornAt, IsFree, header-plain, born-is, born-info, born-layout, born-first, birth_holds, free-unmet, request_for, request-names, more-pointers, length-born_words}
 use Rattle.object_view.proofs.WholeLaws.{born-written, has_object-born, has_object-keeps}
@@ -42,8 +42,8 @@ use Rattle.heap_parts.specs.Places.{is_young, young_places, old_places, block_at
 use Rattle.heap_parts.specs.Nursery.{IsWalk, AreWalks, walked, HoldsNursery}
 use Rattle.heap_parts.specs.OldSpace.{reserved_block, reserved_blocks, blocks_of}
 use Rattle.heap_parts.specs.StandsFor.{PartsStandFor}
-use Rattle.heap_parts.proofs.Births.{rise-bounds, is_in-named}
-use Rattle.heap_parts.proofs.Members.{in-either, each-left, each-right}
+use Rattle.heap_parts.proofs.Births.{rise-bounds}
+use Rattle.heap_parts.proofs.Members.{each-left, each-right}
 use Rattle.heap_parts.proofs.PlaceLaws.{young-is_in, is_in-young, is_in-old, young-more, old-same}
 use Rattle.heap_parts.proofs.BlockLaws.{each-member, blocks-written}
 use Rattle.heap_parts.proofs.WriteWords.{each-reserved}

@@ -1,17 +1,13 @@
 -- What a heap tells of its objects: it is read from the words and the lists.
-use Rattle.std.specs.Prelude.{ℕ, ◌+◌, ◌==◌, if◌then◌else◌, Option, Some, None, is_some}
+use Rattle.std.specs.Prelude.{ℕ, ◌+◌, ◌==◌, if◌then◌else◌, Option, Some, None}
 use Rattle.type_table.specs.declared.info.Shape.{Shape}
 use Rattle.type_table.specs.declared.info.Shape.TheVariants.{IntArray, RefArray}
 use Rattle.type_table.specs.declared.info.TypeInfo.{TypeInfo}
-use Rattle.type_table.specs.Table.{Table, value_at}
-use Rattle.object_header.specs.Words.{has_flag}
-use Rattle.object_header.specs.declared.flags.Flag.TheVariants.{Pinned}
+use Rattle.type_table.specs.Table.{Table}
 use Rattle.object_model.specs.declared.kind.Kind.{Kind}
 use Rattle.object_model.specs.ObjectWords.{info_at, layout_at}
-use Rattle.store_model.specs.Structs.{state_of, p_link_of}
-use Rattle.store_model.specs.Look.{Look}
 use Rattle.store_model.specs.Unbuilt.{Room}
-use Rattle.heap_parts.specs.Parts.{HeapParts, word_in, place_in}
+use Rattle.heap_parts.specs.Parts.{HeapParts}
 
 -- the shape of the object at a place, and how many whole numbers and references it has
 abbrev pub kind_from : Table TypeInfo → (ℕ → ℕ) → ℕ → Kind

@@ -8,9 +8,9 @@ use Rattle.heap_space.specs.Places.{word_at}
 use Rattle.heap_space.specs.Memory.{Memory}
 use Rattle.heap_space.specs.Extents.{Extent, Each, IsInside, KeepsWords, KeepsOutside, extents_between}
 use Rattle.heap_space.proofs.ExtentLaws.{Each-map}
-use Rattle.object_header.specs.Words.{with_flag}
+use Rattle.object_header.specs.Words.{with_flag, has_flag}
 use Rattle.object_header.specs.declared.flags.Flag.TheVariants.{Visited}
-use Rattle.object_header.proofs.WordLaws.{type_of-with_flag, IsHeader-with_flag}
+use Rattle.object_header.proofs.WordLaws.{type_of-with_flag, IsHeader-with_flag, has_flag-with_flag_same}
 use Rattle.object_view.proofs.LayoutLaws.{laid_out}
 use Rattle.old_space.specs.HasBlocks.{HasBlocks, greatest_small, IsBlock}
 use Rattle.old_space.specs.Calls.{BeginsSweep}
@@ -22,7 +22,7 @@ use Rattle.store_model.specs.Marking.{is_white, is_condemned}
 use Rattle.object_model.specs.ObjectWords.{words_at, layout_at}
 use Rattle.heap_parts.specs.Parts.{HeapParts, word_in, home_in}
 use Rattle.heap_parts.specs.Places.{is_young, young_places, old_places, block_at}
-use Rattle.heap_parts.specs.OldSpace.{blocks_of, reserved_blocks, reserved_homes}
+use Rattle.heap_parts.specs.OldSpace.{blocks_of, reserved_blocks, reserved_homes, AreUnitsSwept}
 use Rattle.heap_parts.specs.StandsFor.{PartsStandFor}
 use Rattle.heap_parts.proofs.Members.{each-left, each-right}
 use Rattle.heap_parts.proofs.BlockLaws.{each-member}
@@ -34,13 +34,9 @@ use Rattle.heap_phases.proofs.EndStands.{EndsMarking}
 use Rattle.text_model.specs.declared.line.Phase.{Phase}
 use Rattle.text_model.specs.declared.line.Phase.TheVariants.{Marking}
 use Rattle.store_model.specs.Sound.{IsPhaseSound}
-use Rattle.heap_parts.specs.OldSpace.{AreUnitsSwept}
-use Rattle.object_header.specs.Words.{has_flag}
-use Rattle.object_header.proofs.WordLaws.{has_flag-with_flag_same}
 use Rattle.heap_parts.specs.Headers.{is_marked}
 use Rattle.heap_parts.proofs.MinorNeeds.{settled_place}
-use Rattle.heap_parts.proofs.Filters.{not-true}
-use Rattle.heap_phases.proofs.EndStore.{and-one, and-two}
+use Rattle.object_model.proofs.Members.{not-true, and_second, and_first}
 
 -- the blocks outside the nursery, as they stand in marking
 abbrev pub marking_blocks : (heap : HeapParts) (store : Store) → PartsStandFor heap store → List Extent
@@ -183,8 +179,8 @@ dead_place heap store s saved m marking marks p t = elim (cases_Bool (is_young p
       let there : IsTrue (is_in p (old_places s.places)) = is_in-old s.places p t old in
       elim (cases_Bool (is_condemned store saved (s.name p))) [
         | inl gone ↦
-            let white : IsTrue (is_white store (s.name p)) = and-one (is_white store (s.name p)) (not (saved (s.name p))) gone in
-            let unvisited : is_in (s.name p) store.visited ≡ false = not-true (is_in (s.name p) store.visited) (and-two (is_settled store.settled (s.name p)) (not (is_in (s.name p) store.visited)) white) in
+            let white : IsTrue (is_white store (s.name p)) = and_first (is_white store (s.name p)) (not (saved (s.name p))) gone in
+            let unvisited : is_in (s.name p) store.visited ≡ false = not-true (is_in (s.name p) store.visited) (and_second (is_settled store.settled (s.name p)) (not (is_in (s.name p) store.visited)) white) in
             let flag : has_flag (word_at m.blocks p) Visited ≡ false = ap (λ (k : ℕ). has_flag k Visited) (marks.heads.lost p there gone)
             ∙ (s.visited.each p there ∙ (ap (λ (ph : Phase). is_marked ph store.visited s.name heap.setup.settings.page s.waiting p) marking ∙ unvisited)) in
             gone ∙ sym (joined (is_young p) (has_flag (word_at m.blocks p) Visited) old flag)

@@ -15,7 +15,7 @@ use Rattle.object_model.specs.Sets.{is_in}
 use Rattle.store_model.specs.MinorCollection.{clear_target, left_target}
 use Rattle.object_model.specs.ObjectWords.{words_from, renamed, info_at, layout_at, words_at, target_of, object_from}
 use Rattle.heap_parts.specs.Places.{is_weak_at}
-use Rattle.heap_phases.proofs.EndStore.{and-one}
+use Rattle.object_model.proofs.Members.{and_first}
 use Rattle.heap_phases.proofs.EndObjects.{ClearsTargets}
 
 -- the words of the objects afterwards: first words keep types, and of the others only the targets that were cleared change, to nil
@@ -56,7 +56,7 @@ module _ {types : Table TypeInfo} {v w : ℕ → ℕ} {places : List ℕ} (name 
     where
       go : (d : Bool) → clears types w name white p ≡ d → (if d && (b == (layout_at types w p).ref_start) then 0 else w b) ≡ w b
       go false e = refl
-      go true e = let weak = weak-shape (info_at types w p).shape (and-one (is_weak_at types w p) _ e) in rw (ne_eqb b (layout_at types w p).ref_start (ne weak)) refl
+      go true e = let weak = weak-shape (info_at types w p).shape (and_first (is_weak_at types w p) _ e) in rw (ne_eqb b (layout_at types w p).ref_start (ne weak)) refl
 
   cleared-keeps : (p : ℕ) → IsTrue (is_in p places) → KeepsLayout types v w p
   cleared-keeps p t =

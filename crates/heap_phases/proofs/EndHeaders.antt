@@ -10,9 +10,8 @@ use Rattle.object_header.specs.Words.{has_flag, with_flag}
 use Rattle.object_header.specs.declared.flags.Flag.{Flag}
 use Rattle.object_header.specs.declared.flags.Flag.TheVariants.{Track, Visited, HasShadow, Pinned, HasCards, CardsSet, Free, Shadow, Order1, Order2}
 use Rattle.object_header.proofs.WordLaws.{has_flag-with_flag_other, has_flag-with_flag_same, IsHeader-with_flag}
-use Rattle.object_view.proofs.WordLaws.{is_in-head, is_in-tail, is_in-cases, is_in-nil}
+use Rattle.object_model.proofs.Members.{is_in-head, is_in-tail, is_in-cases, is_in-nil, filter-part, filter-member, not-true}
 use Rattle.object_view.proofs.LayoutLaws.{info_at-same}
-use Rattle.object_view.proofs.SurvivorLaws.{filter-part, filter-member}
 use Rattle.text_model.specs.declared.line.Phase.TheVariants.{Sweeping}
 use Rattle.object_model.specs.Layout.{Layout}
 use Rattle.object_model.specs.Object.{Object, object_at}
@@ -28,8 +27,7 @@ use Rattle.heap_parts.specs.StandsFor.{HoldsHeaders, HoldsYoungFlags, HoldsVisit
 use Rattle.heap_parts.proofs.PlaceLaws.{old-is_in}
 use Rattle.heap_parts.proofs.SameLayouts.{SameLayouts}
 use Rattle.heap_phases.proofs.EndWords.{staying, losing, young_staying, old_staying, lost_old}
-use Rattle.heap_parts.proofs.Filters.{not-true}
-use Rattle.heap_parts.proofs.After.{left_objects, refs_left}
+use Rattle.store_model.proofs.After.{left_objects, refs_left}
 
 -- the first words afterwards: a settled object that stays carries the mark, and the others' stay
 pub record EndsHeads (v w : ℕ → ℕ) (home : ℕ → Option ℕ) (gone : ℕ → Bool) (name : ℕ → ℕ) (places : List ℕ) : Type 0 where

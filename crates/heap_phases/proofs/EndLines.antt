@@ -9,9 +9,8 @@ use Rattle.type_table.specs.declared.info.Shape.{Shape}
 use Rattle.type_table.specs.declared.info.Shape.TheVariants.{Fixed, IntArray, RefArray, Weak}
 use Rattle.type_table.specs.declared.info.TypeInfo.{TypeInfo}
 use Rattle.type_table.specs.Table.{Table}
-use Rattle.object_view.proofs.WordLaws.{map-same}
+use Rattle.object_model.proofs.Members.{map-same, filter-part}
 use Rattle.object_view.proofs.LayoutLaws.{birth-from, object_from-of}
-use Rattle.object_view.proofs.SurvivorLaws.{filter-part}
 use Rattle.text_model.specs.declared.line.Line.{Line}
 use Rattle.text_model.specs.declared.line.Line.TheVariants.{Cleared, Kept, Destroyed, LinkCut}
 use Rattle.text_model.specs.declared.line.LinkEnd.{LinkEnd}

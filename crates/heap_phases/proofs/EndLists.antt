@@ -9,9 +9,8 @@ use Rattle.std.proofs.lemmas.Simd.{map-map}
 use Rattle.type_table.specs.declared.info.TypeInfo.{TypeInfo}
 use Rattle.type_table.specs.Table.{Table, KeysRise}
 use Rattle.heap_space.specs.Extents.{Extent}
-use Rattle.object_view.proofs.WordLaws.{is_in-head, is_in-tail, is_in-cases, is_in-nil, map-same}
+use Rattle.object_model.proofs.Members.{is_in-head, is_in-tail, is_in-cases, is_in-nil, map-same, filter-part, filter-member, filter-agree, in-left, in-right, in-either, is_in-named}
 use Rattle.object_view.proofs.LayoutLaws.{birth-from}
-use Rattle.object_view.proofs.SurvivorLaws.{filter-part, filter-member}
 use Rattle.text_model.specs.declared.line.Fate.{Fate}
 use Rattle.text_model.specs.declared.line.Fate.TheVariants as fate
 use Rattle.object_model.specs.Object.{Object}
@@ -27,9 +26,8 @@ use Rattle.heap_parts.specs.OldSpace.{blocks_of, reserved_blocks}
 use Rattle.heap_parts.specs.Lists.{HoldsSlots, HoldsEntries, HoldsQueues, HoldsLinks, named_entries, named_queues}
 use Rattle.heap_parts.specs.StandsFor.{HoldsBirths, HoldsHomes}
 use Rattle.heap_parts.proofs.BirthNames.{rises-unnamed}
-use Rattle.heap_parts.proofs.CutSound.{was_linked}
-use Rattle.heap_parts.proofs.Births.{rise-lower, is_in-named}
-use Rattle.heap_parts.proofs.Members.{filter-agree, in-left, in-right, in-either}
+use Rattle.store_model.proofs.CutSound.{was_linked}
+use Rattle.heap_parts.proofs.Births.{rise-lower}
 use Rattle.heap_parts.proofs.PlaceLaws.{old-is_in, settled-old}
 use Rattle.heap_phases.proofs.EndWords.{staying, losing, young_staying, old_staying}
 use Rattle.heap_parts.proofs.Filters.{filter_at}

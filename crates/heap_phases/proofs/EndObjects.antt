@@ -7,7 +7,7 @@ use Rattle.type_table.specs.declared.info.Shape.{Shape}
 use Rattle.type_table.specs.declared.info.Shape.TheVariants.{Fixed, IntArray, RefArray, Weak}
 use Rattle.type_table.specs.declared.info.TypeInfo.{TypeInfo}
 use Rattle.type_table.specs.Table.{Table}
-use Rattle.object_view.proofs.WordLaws.{is_in-head, is_in-tail}
+use Rattle.object_model.proofs.Members.{is_in-head, is_in-tail}
 use Rattle.object_view.proofs.LayoutLaws.{info_at-same}
 use Rattle.object_view.proofs.FoundLaws.{found-at, ref-from, target-from}
 use Rattle.object_view.proofs.FrameLaws.{all_hold}

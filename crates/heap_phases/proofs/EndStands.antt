@@ -11,8 +11,7 @@ use Rattle.heap_space.specs.Places.{word_at}
 use Rattle.heap_space.specs.Memory.{Memory}
 use Rattle.object_header.specs.Words.{has_flag}
 use Rattle.object_header.specs.declared.flags.Flag.TheVariants.{Visited}
-use Rattle.object_view.proofs.WordLaws.{is_in-nil}
-use Rattle.object_view.proofs.SurvivorLaws.{filter-part}
+use Rattle.object_model.proofs.Members.{is_in-nil, map-same, filter-part, in-left, in-right, and_first, and_second, not-true}
 use Rattle.old_space.specs.HasBlocks.{greatest_small}
 use Rattle.old_space.specs.declared.Old.{Old}
 use Rattle.object_model.specs.declared.settings.Settings.{Settings}
@@ -29,28 +28,23 @@ use Rattle.object_model.specs.ObjectWords.{words_at}
 use Rattle.heap_parts.specs.Parts.{HeapParts, word_in, home_in}
 use Rattle.heap_parts.specs.Places.{young_places, old_places, RiseBetween, AreAmong}
 use Rattle.heap_parts.specs.OldSpace.{husk_at}
-use Rattle.heap_parts.specs.StandsFor.{HoldsHuskList}
+use Rattle.heap_parts.specs.StandsFor.{HoldsHuskList, PartsStandFor, HoldsWords, HoldsHeaders, HoldsHomes, HoldsBirths}
 use Rattle.heap_parts.proofs.RiseLines.{keys_rise}
-use Rattle.heap_phases.proofs.EndLists.{rise_filtered}
-use Rattle.object_view.proofs.WordLaws.{map-same}
+use Rattle.heap_phases.proofs.EndLists.{rise_filtered, end_births, end_slots, end_entries, entries_stay, entries_both, end_queues, end_links, end_homes, blocks_few}
 use Rattle.std.proofs.lemmas.Simd.{map-map}
 use Rattle.object_model.specs.Layout.{Layout}
-use Rattle.heap_parts.specs.StandsFor.{PartsStandFor, HoldsWords, HoldsHeaders, HoldsHomes, HoldsBirths}
 use Rattle.heap_parts.specs.Collects.{AreAllPinned}
 use Rattle.heap_phases.specs.EndOfMarking.{marked_parts}
-use Rattle.heap_parts.proofs.Members.{in-left, in-right}
 use Rattle.heap_parts.proofs.PlaceLaws.{placed_words, young-is_in, old-is_in}
 use Rattle.heap_parts.proofs.MinorNeeds.{settled_place}
 use Rattle.heap_parts.proofs.SameLayouts.{sum-same}
-use Rattle.heap_phases.proofs.EndStore.{and-one, and-two, stays_refers, black_stays, root_stays, registered_stays, unsettled_stays}
+use Rattle.store_model.proofs.EndOfMarking.{stays_refers, black_stays, root_stays, registered_stays, unsettled_stays}
 use Rattle.heap_phases.proofs.EndWords.{EndsWords, staying, losing, end_words, end_waits, young_staying, old_staying, losing_old}
 use Rattle.heap_phases.proofs.EndHeaders.{EndsHeads, end_headers, end_young_flags, end_visited, end_remembered, end_order}
 use Rattle.heap_parts.specs.Headers.{is_marked}
-use Rattle.heap_parts.proofs.Filters.{not-true}
-use Rattle.heap_phases.proofs.EndLists.{end_births, end_slots, end_entries, entries_stay, entries_both, end_queues, end_links, end_homes, blocks_few}
-use Rattle.heap_parts.proofs.CutSound.{cut_sound}
-use Rattle.heap_parts.proofs.After.{left_objects, kept_left}
-use Rattle.heap_phases.proofs.EndSound.{end_sound, settled_before, settled_now}
+use Rattle.store_model.proofs.CutSound.{cut_sound}
+use Rattle.store_model.proofs.After.{left_objects, kept_left}
+use Rattle.store_model.proofs.MarkedSound.{end_sound, settled_before, settled_now}
 
 pub sum_map : (f : ℕ → ℕ) (types : Table TypeInfo) (v : ℕ → ℕ) (ps : List ℕ) → husk_words (map (λ p. (v (p + 1), words_at types v p)) ps) ≡ sum_by (words_at types v) ps
 sum_map f types v [] = refl
@@ -171,8 +165,8 @@ module _ (heap : HeapParts) (store : Store) (s : PartsStandFor heap store) (pinn
   unvisited p t lost =
       let marked_by : has_flag (word_in heap p) Visited ≡ is_in (s.name p) store.visited =
       s.visited.each p t ∙ ap (λ (ph : Phase). is_marked ph store.visited s.name settings.page s.waiting p) marking in
-      let white : is_white store (s.name p) ≡ true = and-one (is_white store (s.name p)) (not (saved (s.name p))) lost in
-      marked_by ∙ not-true (is_in (s.name p) store.visited) (and-two (is_settled store.settled (s.name p)) (not (is_in (s.name p) store.visited)) white)
+      let white : is_white store (s.name p) ≡ true = and_first (is_white store (s.name p)) (not (saved (s.name p))) lost in
+      marked_by ∙ not-true (is_in (s.name p) store.visited) (and_second (is_settled store.settled (s.name p)) (not (is_in (s.name p) store.visited)) white)
 
   v : ℕ → ℕ
   v = word_at memory.blocks

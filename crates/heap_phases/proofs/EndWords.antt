@@ -1,24 +1,23 @@
 -- The end of marking: words, the nursery, blocks and husks.
 use Rattle.std.proofs.Common.{◌≡◌, ℕ, ◌+◌, ◌≤◌, Bool, true, false, IsTrue, List, [], ◌++◌, map, length, Option, sym, ap, ap₂, ◌∙◌, subst, inl, inr, arith}
-use Rattle.std.specs.Prelude.{not, filter, nat_lt, if◌then◌else◌, Contains}
+use Rattle.std.specs.Prelude.{not, filter, nat_lt, if◌then◌else◌, Contains, IsSome, ◌==◌}
 use Rattle.std.specs.List.Sorted.{IsPermutation}
 use Rattle.std.proofs.lemmas.Bool.{cases_Bool}
 use Rattle.std.proofs.lemmas.Simd.{map-map}
 use Rattle.type_table.specs.declared.info.TypeInfo.{TypeInfo}
-use Rattle.type_table.specs.Table.{Table}
+use Rattle.type_table.specs.Table.{Table, value_at}
 use Rattle.heap_space.specs.Places.{lies_in_one, word_at}
 use Rattle.heap_space.specs.Memory.{Memory}
-use Rattle.heap_space.specs.Extents.{Extent, Each}
+use Rattle.heap_space.specs.Extents.{Extent, Each, extents_between}
 use Rattle.nursery_gaps.specs.Nursery.{Layout as NurseryLayout}
 use Rattle.size_pages.specs.Calls.{page_of}
-use Rattle.object_view.proofs.WordLaws.{map-same}
-use Rattle.object_view.proofs.LayoutLaws.{info_at-same, birth-from}
+use Rattle.object_model.proofs.Members.{map-same, filter-part, filter-member, filter-agree}
+use Rattle.object_view.proofs.LayoutLaws.{info_at-same, birth-from, laid_out}
 use Rattle.object_view.proofs.FoundLaws.{words-from}
-use Rattle.object_view.proofs.SurvivorLaws.{filter-part, filter-member}
-use Rattle.old_space.specs.HasBlocks.{HasBlocks}
+use Rattle.old_space.specs.HasBlocks.{HasBlocks, IsBlock}
 use Rattle.old_space.specs.Calls.{unit_of}
 use Rattle.old_space.specs.declared.Old.{Old}
-use Rattle.old_space.proofs.JoinLaws.{HasBlocks_permuted}
+use Rattle.old_space.proofs.JoinLaws.{HasBlocks_permuted, HasBlocks-blocks}
 use Rattle.object_model.specs.Layout.{Layout}
 use Rattle.object_model.specs.Object.{Object, words_of, object_at}
 use Rattle.object_model.specs.Sets.{is_in}
@@ -28,20 +27,13 @@ use Rattle.store_model.specs.Reach.{objects_where}
 use Rattle.store_model.specs.MinorCollection.{clear_target}
 use Rattle.object_model.specs.ObjectWords.{words_at, object_from}
 use Rattle.heap_parts.specs.Places.{is_young, young_places, old_places, block_at, is_weak_at, AreWhole}
-use Rattle.heap_parts.specs.Nursery.{HoldsNursery}
+use Rattle.heap_parts.specs.Nursery.{HoldsNursery, walked}
 use Rattle.heap_parts.specs.OldSpace.{reserved_blocks, blocks_of, husk_at, HoldsHusks, unit_at, is_waiting}
 use Rattle.heap_parts.specs.StandsFor.{HoldsWords}
-use Rattle.heap_parts.proofs.Members.{filter-agree, each-left}
+use Rattle.heap_parts.proofs.Members.{each-left}
 use Rattle.heap_parts.proofs.PlaceLaws.{young-is_in, old-is_in, is_in-old}
 use Rattle.heap_parts.proofs.BlockLaws.{each-member, lies-kept}
-use Rattle.heap_parts.specs.Nursery.{walked}
 use Rattle.std.proofs.lemmas.List.Sorted.{list_any-IsPermutation}
-use Rattle.std.specs.Prelude.{IsSome, ◌==◌}
-use Rattle.type_table.specs.Table.{value_at}
-use Rattle.heap_space.specs.Extents.{extents_between}
-use Rattle.old_space.specs.HasBlocks.{IsBlock}
-use Rattle.old_space.proofs.JoinLaws.{HasBlocks-blocks}
-use Rattle.object_view.proofs.LayoutLaws.{laid_out}
 use Rattle.heap_parts.proofs.KeepWords.{SameObjects, walks-same, blocks_same}
 use Rattle.heap_phases.proofs.EndObjects.{ClearsTargets, end_objects}
 use Rattle.heap_parts.proofs.Filters.{filter_swap, filter_every, filter_at, filter_permuted, parts_permuted, contains_is_in}

@@ -1,5 +1,5 @@
 -- The kinds of major step, each for every store right after a minor collection: what the code must have done, and what follows.
-use Rattle.object_view.proofs.WordLaws.{is_in-head, is_in-tail}
+use Rattle.object_model.proofs.Members.{is_in-head, is_in-tail}
 use Rattle.std.proofs.Common.{◌≡◌, ℕ, ◌+◌, IsTrue, List, [], ◌∷◌, ◌++◌, map, refl, sym, ap, ap₂, ◌∙◌, subst}
 use Rattle.std.specs.Prelude.{min}
 use Rattle.std.specs.List.Sorted.{IsPermutation, IsNonDecreasing}
@@ -24,15 +24,16 @@ use Rattle.heap_parts.specs.StandsFor.{PartsStandFor}
 use Rattle.heap_parts.specs.Collects.{AreAllPinned, IsCollected}
 use Rattle.heap_phases.specs.EndOfMarking.{marked_parts}
 use Rattle.heap_phases.specs.Swept.{swept_parts}
-use Rattle.heap_phases.proofs.TestsExist.{reached_test, retained_test, saved_test}
-use Rattle.heap_phases.proofs.StartStands.{marking_parts, started_marking, start_stands}
+use Rattle.store_model.proofs.TestsExist.{reached_test, retained_test, saved_test}
+use Rattle.heap_phases.proofs.StartStands.{marking_parts, start_stands}
+use Rattle.store_model.proofs.StartSound.{started_marking}
 use Rattle.heap_phases.proofs.FinalStands.{final_parts, final_stands}
 use Rattle.heap_phases.proofs.SweepSteps.{in_phase, phase_left, step_stands, sweeping_step}
 use Rattle.heap_phases.proofs.EndWords.{losing}
 use Rattle.heap_phases.proofs.EndStands.{end_of_marking}
 use Rattle.heap_phases.proofs.EndLines.{TellsEnd, end_is_told}
 use Rattle.heap_phases.proofs.EndCalls.{MarksEnd, BeganSweep, marking_blocks, ends_marking}
-use Rattle.heap_phases.proofs.ChosenTest.{found_births, finds_chosen}
+use Rattle.store_model.proofs.ChosenTest.{found_births, finds_chosen}
 use Rattle.heap_phases.specs.Visiting.{old_roots}
 use Rattle.heap_phases.proofs.RootPlaces.{old_roots_named, old_roots_there}
 

@@ -5,7 +5,7 @@ use Rattle.std.proofs.lemmas.Bool.Decides.{nat_tests}
 use Rattle.std.proofs.lemmas.List.{map-append, length-map}
 use Rattle.std.proofs.lemmas.List.Sums.{sum_by-cons, sum_by-take-le}
 use Rattle.std.proofs.lemmas.Simd.{map-map}
-use Rattle.object_view.proofs.WordLaws.{is_in-head, is_in-tail, is_in-cases, is_in-nil, map-same}
+use Rattle.object_model.proofs.Members.{is_in-head, is_in-tail, is_in-cases, is_in-nil, map-same, in-either}
 use Rattle.object_view.proofs.FoundLaws.{found-at, words-from}
 use Rattle.text_model.specs.declared.line.Line.{Line}
 use Rattle.text_model.specs.declared.line.Line.TheVariants.{Stepped, Visited}
@@ -23,12 +23,11 @@ use Rattle.heap_parts.specs.Parts.{HeapParts, word_in}
 use Rattle.heap_parts.specs.Places.{AreAmong}
 use Rattle.heap_parts.specs.StandsFor.{PartsStandFor}
 use Rattle.heap_parts.specs.Collects.{IsCollected}
-use Rattle.heap_parts.proofs.Members.{in-either}
 use Rattle.heap_parts.proofs.PlaceLaws.{old-is_in}
 use Rattle.heap_phases.specs.Visiting.{PlaceVisits, with_gray, old_roots}
 use Rattle.heap_phases.proofs.RootPlaces.{old_roots_named, old_roots_there}
-use Rattle.heap_phases.proofs.MarkVisit.{StepOrder, order-visits, order-roots}
-use Rattle.heap_phases.proofs.MarkStep.{step_goes_on, step_ends, marked_after}
+use Rattle.store_model.proofs.MarkVisit.{order-visits, order-roots, StepOrder}
+use Rattle.store_model.proofs.MarkStep.{step_goes_on, step_ends, marked_after}
 use Rattle.heap_phases.proofs.PlaceChain.{AtPlaces, VisitsTo, visits_stand, with-gray-at}
 use Rattle.heap_phases.proofs.MajorSteps.{StepsTo, EndsTo, in-phase}
 

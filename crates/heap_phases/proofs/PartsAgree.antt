@@ -7,7 +7,7 @@ use Rattle.std.proofs.lemmas.Bool.Decides.{eqb_tells, nat_tests}
 use Rattle.type_table.specs.Table.{Table, KeysRise, value_at}
 use Rattle.type_table.proofs.TableLaws.{KeysRise-tail}
 use Rattle.heap_space.specs.Memory.{Memory}
-use Rattle.object_view.proofs.WordLaws.{is_in-head, is_in-tail}
+use Rattle.object_model.proofs.Members.{is_in-head, is_in-tail, filter-agree}
 use Rattle.old_space.specs.declared.Old.{Old}
 use Rattle.text_model.specs.declared.line.LinkEnd.{LinkEnd}
 use Rattle.store_model.specs.Store.{Struct, Linked, Unlinked, Pending}
@@ -16,8 +16,7 @@ use Rattle.store_model.specs.Structs.{Structs, object_of}
 use Rattle.store_model.specs.Links.{cut_links, entry_after, link_end, link_ends, newly_dead}
 use Rattle.heap_parts.specs.Remembered.{Held, held_places}
 use Rattle.heap_parts.specs.Parts.{HeapParts}
-use Rattle.heap_parts.proofs.Members.{filter-agree}
-use Rattle.heap_parts.proofs.StructLaws.{first-value, behind-first}
+use Rattle.store_model.proofs.StructLaws.{first-value, behind-first}
 use Rattle.heap_phases.specs.EndOfMarking.{marked_parts, without_dead}
 
 -- a filter of what is listed by a place

@@ -2,7 +2,7 @@
 use Rattle.std.proofs.Common.{◌≡◌, ℕ, IsTrue, List, [], ◌∷◌, ◌++◌, map, append-nil, append_assoc, refl, sym, ap, ◌∙◌, subst, inl, inr}
 use Rattle.std.specs.Prelude.{IsFalse}
 use Rattle.std.proofs.lemmas.List.{map-append}
-use Rattle.object_view.proofs.WordLaws.{is_in-head, is_in-tail, is_in-cases, is_in-nil}
+use Rattle.object_model.proofs.Members.{is_in-head, is_in-tail, is_in-cases, is_in-nil, in-either}
 use Rattle.text_model.specs.declared.line.Phase.{Phase}
 use Rattle.text_model.specs.declared.line.Phase.TheVariants.{Marking}
 use Rattle.store_model.specs.Store.{Store}
@@ -17,11 +17,11 @@ use Rattle.heap_parts.specs.Places.{old_places, AreAmong}
 use Rattle.heap_parts.specs.Order.{IsGrayOf}
 use Rattle.heap_parts.specs.Headers.{is_marked}
 use Rattle.heap_parts.specs.StandsFor.{PartsStandFor}
-use Rattle.heap_parts.proofs.Members.{in-either}
 use Rattle.heap_parts.proofs.PlaceLaws.{old-is_in}
 use Rattle.heap_phases.specs.Visiting.{old_refs, with_gray, with_visit, PlaceVisits, NoPlace, PassesPlace, VisitsPlace}
-use Rattle.heap_phases.proofs.MarkVisit.{StepOrder, order-passed, order-visited}
-use Rattle.heap_phases.proofs.VisitStands.{visit_stands, visit_places, visited_too}
+use Rattle.store_model.proofs.MarkVisit.{order-visited, StepOrder, order-passed}
+use Rattle.heap_phases.proofs.VisitStands.{visit_stands, visit_places}
+use Rattle.store_model.proofs.VisitSound.{visited_too}
 use Rattle.heap_phases.proofs.VisitRefs.{refs_queued, ref_place}
 
 -- the parts stand for the store, with these places and names

@@ -5,7 +5,7 @@ use Rattle.std.specs.List.{cons_option}
 use Rattle.std.proofs.lemmas.List.{map-append}
 use Rattle.std.proofs.lemmas.List.Elements.{filter-append}
 use Rattle.type_table.specs.Table.{Table, KeysRise, value_at}
-use Rattle.object_view.proofs.SurvivorLaws.{filter-part, filter-member}
+use Rattle.object_model.proofs.Members.{filter-part, filter-member, in-either}
 use Rattle.store_model.specs.Store.{Store, Struct, Linked, Unlinked, Pending}
 use Rattle.object_model.specs.Sets.{is_in}
 use Rattle.store_model.specs.Structs.{object_of, forced_object, forced_objects, with_object, with_objects}
@@ -16,10 +16,9 @@ use Rattle.heap_parts.specs.Places.{is_young, old_places, AreAmong}
 use Rattle.heap_parts.specs.StandsFor.{PartsStandFor}
 use Rattle.heap_parts.proofs.BirthNames.{rises-unnamed}
 use Rattle.heap_parts.proofs.Filters.{filter_at}
-use Rattle.heap_parts.proofs.Members.{in-either}
 use Rattle.heap_parts.proofs.MinorNeeds.{settled_place}
 use Rattle.heap_parts.proofs.PlaceLaws.{young-is_in}
-use Rattle.heap_parts.proofs.StructLaws.{forced-at}
+use Rattle.store_model.proofs.StructLaws.{forced-at}
 use Rattle.heap_phases.specs.Visiting.{old_roots}
 use Rattle.heap_phases.proofs.EndLists.{names-entries, names-queues}
 use Rattle.heap_phases.proofs.VisitRefs.{refs-named}

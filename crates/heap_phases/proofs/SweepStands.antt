@@ -1,6 +1,6 @@
--- One unit is swept: the parts stand for the store without its husks.
-use Rattle.std.proofs.Common.{◌≡◌, ◌≢◌, ℕ, suc, ◌+◌, ◌*◌, ◌≤◌, ◌⊎◌, Bool, true, false, IsTrue, List, [], ◌∷◌, ◌++◌, map, length, nat_eq, Some, refl, sym, ap, ap₂, ◌∙◌, subst, inl, inr, arith}
-use Rattle.std.specs.Prelude.{IsFalse, nat_le, nat_lt, not, ◌==◌, ◌&&◌, filter, sum_by, if◌then◌else◌}
+-- A store without some husks is sound.
+use Rattle.std.proofs.Common.{◌≡◌, ◌≢◌, ℕ, suc, ◌+◌, ◌*◌, ◌≤◌, ◌⊎◌, Bool, true, false, IsTrue, List, [], ◌∷◌, ◌++◌, map, length, nat_eq, refl, sym, ap, ap₂, ◌∙◌, subst, inl, inr, arith}
+use Rattle.std.specs.Prelude.{nat_le, nat_lt, not, ◌==◌, ◌&&◌, filter, sum_by, if◌then◌else◌}
 use Rattle.std.specs.List.{IsDistinct, AllByRecursion}
 use Rattle.std.specs.List.Sorted.{IsPermutation}
 use Rattle.std.proofs.lemmas.Bool.{cases_Bool, ne_eqb}
@@ -8,7 +8,7 @@ use Rattle.std.proofs.lemmas.Bool.Decides.{eqb_tells, nat_tests}
 use Rattle.std.proofs.lemmas.List.Sorted.{list_any-IsPermutation, IsPermutation-sym}
 use Rattle.std.proofs.lemmas.Simd.{map-map}
 use Rattle.type_table.specs.declared.info.TypeInfo.{TypeInfo}
-use Rattle.type_table.specs.Table.{Table, value_at, entries_where}
+use Rattle.type_table.specs.Table.{Table}
 use Rattle.heap_space.specs.Places.{word_at}
 use Rattle.heap_space.specs.Memory.{Memory}
 use Rattle.heap_space.specs.Extents.{Extent, Each}
@@ -16,20 +16,19 @@ use Rattle.object_header.specs.Words.{has_flag, without_flag}
 use Rattle.object_header.specs.declared.flags.Flag.{Flag}
 use Rattle.object_header.specs.declared.flags.Flag.TheVariants.{Track, Visited, HasShadow, Pinned, HasCards, CardsSet, Free, Shadow, Order1, Order2}
 use Rattle.object_header.proofs.WordLaws.{has_flag-without_flag_other, has_flag-without_flag_same, IsHeader-without_flag}
-use Rattle.object_view.proofs.WordLaws.{is_in-head, is_in-tail, is_in-cases, is_in-nil, map-same}
+use Rattle.object_model.proofs.Members.{is_in-head, is_in-tail, is_in-cases, is_in-nil, map-same, filter-part, filter-member, in-left, in-right, in-either, and_both, is_in-named, not-true}
 use Rattle.object_view.proofs.LayoutLaws.{laid_out, info_at-same, birth-from}
 use Rattle.type_table.proofs.TableLaws.{KeysRise-entries_where}
 use Rattle.size_pages.specs.LiveBlocks.{in_page}
 use Rattle.heap_phases.proofs.UnitOffers.{PageUnit, unit_kind, page-test, large-test}
 use Rattle.heap_phases.proofs.UnitWords.{page_few, where_passes, sum_append, sum_placed}
-use Rattle.heap_parts.specs.OldSpace.{reserved_blocks}
+use Rattle.heap_parts.specs.OldSpace.{reserved_blocks, blocks_of, husk_at, unit_at, is_waiting, AreUnitsSwept}
 use Rattle.heap_parts.proofs.Members.{each-left, each-right}
 use Rattle.heap_parts.proofs.BlockLaws.{each-member}
 use Rattle.std.proofs.lemmas.List.Sums.{sum_by-cons}
 use Rattle.std.proofs.lemmas.List.{length-map}
 use Rattle.object_model.specs.Holds.{HoldsObjects}
 use Rattle.object_model.specs.ObjectWords.{object_from, words_at}
-use Rattle.object_view.proofs.SurvivorLaws.{filter-part, filter-member}
 use Rattle.old_space.specs.Sweeping.{SweepsLowest, in_unit, dead_blocks}
 use Rattle.old_space.specs.declared.Old.{Old}
 use Rattle.object_model.specs.declared.settings.Settings.{Settings}
@@ -41,23 +40,20 @@ use Rattle.store_model.specs.Store.{Store, husk_words}
 use Rattle.object_model.specs.Setup.{small_words}
 use Rattle.object_model.specs.Sets.{is_in}
 use Rattle.store_model.specs.Sweeping.{husks_where, is_freed}
-use Rattle.store_model.specs.Sound.{IsSound, IsPhaseSound, births_in}
 use Rattle.heap_parts.specs.Parts.{HeapParts, word_in, home_in}
 use Rattle.heap_parts.specs.Places.{young_places, old_places, block_at}
-use Rattle.heap_parts.specs.OldSpace.{blocks_of, husk_at, unit_at, is_waiting, AreUnitsSwept}
 use Rattle.heap_parts.specs.Headers.{IsSettledHeader, is_marked, keeps_cards}
 use Rattle.heap_parts.specs.StandsFor.{PartsStandFor, HoldsWords}
 use Rattle.heap_phases.specs.Swept.{without_husks, swept_parts, freed_words}
-use Rattle.heap_parts.proofs.Births.{is_in-named}
-use Rattle.heap_parts.proofs.Members.{in-left, in-right, in-either}
 use Rattle.heap_parts.proofs.PlaceLaws.{young-is_in, old-is_in, named-by as named_by}
 use Rattle.heap_parts.proofs.SameLayouts.{SameLayouts}
 use Rattle.heap_parts.proofs.KeepWords.{firsts-stay}
-use Rattle.heap_phases.proofs.EndStore.{and-all}
-use Rattle.heap_phases.proofs.EndSound.{entry_part}
 use Rattle.heap_phases.proofs.EndStands.{sum_map, sum_split}
-use Rattle.heap_parts.proofs.Filters.{filter_at, filter_none, not-true}
+use Rattle.heap_parts.proofs.Filters.{filter_at, filter_none}
 use Rattle.heap_phases.proofs.SweepWords.{other_husks, swept, swept_words, first_is, husk_first_is, shadow_first_is, low_same, swept_layouts, dead_are, or_later}
+use Rattle.store_model.proofs.Homes.{found_where, kept_where}
+use Rattle.object_model.proofs.Distinct.{distinct-right, distinct-less, distinct-apart}
+use Rattle.store_model.proofs.HusksSound.{husks_sound}
 
 -- names that differ are those of places that differ
 distinct-names : (name : ℕ → ℕ) (ps : List ℕ) → IsDistinct nat_eq (map name ps) → (p q : ℕ) → IsTrue (is_in p ps) → IsTrue (is_in q ps) → name p ≡ name q → p ≡ q
@@ -77,70 +73,6 @@ distinct-names name (r ∷ ps) d p q t u e = go (distinct-names name ps d.1 p q)
     go more (inl a) (inr b) = absurd (apart (name r) ps d.0 q b (ap name (sym a) ∙ e))
     go more (inr a) (inl b) = absurd (apart (name r) ps d.0 p a (ap name (sym b) ∙ sym e))
     go more (inr a) (inr b) = more a b e
-
-distinct-right : (xs ys : List ℕ) → IsDistinct nat_eq (xs ++ ys) → IsDistinct nat_eq ys
-unfolding IsDistinct
-distinct-right [] ys d = d
-distinct-right (x ∷ xs) ys d = distinct-right xs ys d.1
-
--- births that differ still do where some of the last go
-all-part : (f : ℕ → Type 0) (xs : List ℕ) (test : ℕ × ℕ → Bool) (g : ℕ × ℕ → ℕ) (hs : List (ℕ × ℕ)) → AllByRecursion f (xs ++ map g hs) → AllByRecursion f (xs ++ map g (filter test hs))
-all-part f (x ∷ xs) test g hs all = (all.0, all-part f xs test g hs all.1)
-all-part f [] test g [] all = all
-all-part f [] test g (h ∷ hs) all = let more = all-part f [] test g hs all.1 in elim (cases_Bool (test h)) [ inl e ↦ rw e (all.0, more) | inr e ↦ rw e more ]
-
-distinct-part : (xs : List ℕ) (test : ℕ × ℕ → Bool) (g : ℕ × ℕ → ℕ) (hs : List (ℕ × ℕ)) → IsDistinct nat_eq (xs ++ map g hs) → IsDistinct nat_eq (xs ++ map g (filter test hs))
-unfolding IsDistinct
-distinct-part (x ∷ xs) test g hs d = (all-part (λ y. nat_eq x y ≡ false) xs test g hs d.0, distinct-part xs test g hs d.1)
-distinct-part [] test g [] d = d
-distinct-part [] test g (h ∷ hs) d = let more = distinct-part [] test g hs d.1 in let first = all-part (λ y. nat_eq (g h) y ≡ false) [] test g hs d.0 in
-    elim (cases_Bool (test h)) [ inl e ↦ rw e (first, more) | inr e ↦ rw e more ]
-
-value-where : (test : ℕ → Bool) (table : Table ℕ) (key x : ℕ) → value_at (entries_where test table) key ≡ Some x → (value_at table key ≡ Some x) × (test key ≡ true)
-value-where test [] key x e = absurd (let no : ⊥ = cc in no)
-value-where test (entry ∷ table) key x e = go (value-where test table key x) (test entry.0) refl (nat_eq key entry.0) refl
-  where
-    same : nat_eq key entry.0 ≡ true → key ≡ entry.0
-    same h = grind (arith, nat_tests)
-
-    go : (value_at (entries_where test table) key ≡ Some x → (value_at table key ≡ Some x) × (test key ≡ true)) → (b : Bool) → test entry.0 ≡ b → (c : Bool) → nat_eq key entry.0 ≡ c
-        → (value_at (entry ∷ table) key ≡ Some x) × (test key ≡ true)
-    go more true b true c = (rw c (let f : value_at (entries_where test (entry ∷ table)) key ≡ Some entry.1 = rw b (rw c refl) in sym f ∙ e), ap test (same c) ∙ b)
-    go more true b false c = let f : value_at (entries_where test (entry ∷ table)) key ≡ value_at (entries_where test table) key = rw b (rw c refl) in
-        let m = more (sym f ∙ e) in (rw c m.0, m.1)
-    go more false b true c = let f : value_at (entries_where test (entry ∷ table)) key ≡ value_at (entries_where test table) key = rw b refl in
-        let m = more (sym f ∙ e) in absurd (let t : test key ≡ false = ap test (same c) ∙ b in let no : ⊥ = cc in no)
-    go more false b false c = let f : value_at (entries_where test (entry ∷ table)) key ≡ value_at (entries_where test table) key = rw b refl in
-        let m = more (sym f ∙ e) in (rw c m.0, m.1)
-
--- and what passes stands where it stood
-value-still : (test : ℕ → Bool) (table : Table ℕ) (key : ℕ) → test key ≡ true → value_at (entries_where test table) key ≡ value_at table key
-value-still test [] key e = refl
-value-still test (entry ∷ table) key e = go (test entry.0) refl (nat_eq key entry.0) refl (value-still test table key e)
-  where
-    same : nat_eq key entry.0 ≡ true → key ≡ entry.0
-    same h = grind (arith, nat_tests)
-
-    go : (b : Bool) → test entry.0 ≡ b → (c : Bool) → nat_eq key entry.0 ≡ c → value_at (entries_where test table) key ≡ value_at table key
-        → value_at (entries_where test (entry ∷ table)) key ≡ value_at (entry ∷ table) key
-    go true b true c more = rw b (rw c refl)
-    go true b false c more = rw b (rw c more)
-    go false b true c more = absurd (let t : test key ≡ false = ap test (same c) ∙ b in let no : ⊥ = cc in no)
-    go false b false c more = rw b (rw c more)
-
--- births of kept objects are no births of husks
-all-out : (z : ℕ) (xs ys : List ℕ) → AllByRecursion (λ y. nat_eq z y ≡ false) (xs ++ ys) → IsFalse (is_in z ys)
-all-out z (x ∷ xs) ys all = all-out z xs ys all.1
-all-out z [] [] all = refl
-all-out z [] (y ∷ ys) all = let f = all.0 in let out : (y == z) ≡ false = grind (arith, nat_tests) in rw out (all-out z [] ys all.1)
-
-distinct-apart : (xs ys : List ℕ) → IsDistinct nat_eq (xs ++ ys) → (x : ℕ) → IsTrue (is_in x xs) → IsFalse (is_in x ys)
-unfolding IsDistinct
-distinct-apart [] ys d x t = absurd (is_in-nil x t)
-distinct-apart (z ∷ xs) ys d x t = elim (is_in-cases x z xs t) [
-  | inl e ↦ subst (λ (k : ℕ). IsFalse (is_in k ys)) (sym e) (all-out z xs ys d.0)
-  | inr u ↦ distinct-apart xs ys d.1 x u
-]
 
 kept-births : {types : Table TypeInfo} {w name : ℕ → ℕ} {met places : List ℕ} {kept : List Object} → HoldsObjects types w met places name kept → map (λ (o : Object). o.birth) kept ≡ map name places
 kept-births {types = types} {w = w} {name = name} {places = places} h =
@@ -169,67 +101,6 @@ settled-unvisited word h = record {
 
 not-above : (most n : ℕ) → n ≤ most → nat_lt most n ≡ false
 not-above most n l = grind (arith, nat_tests)
-
--- The store without some husks is sound.
-pub husks_sound : (settings : Settings) (store : Store) (births : List ℕ) → store.phase ≡ Sweeping → IsSound settings store → IsSound settings (without_husks store births)
-husks_sound settings store births sweeping s = record {
-  fields = s.fields;
-  settled = s.settled;
-  roots = s.roots;
-  registered = s.registered;
-  pins = s.pins;
-  waiting = s.waiting;
-  queues_rise = s.queues_rise;
-  once = s.once;
-  roots_reached = s.roots_reached;
-  unreached_cut_off = s.unreached_cut_off;
-  unreached_born = s.unreached_born;
-  roots_retained = s.roots_retained;
-  registered_retained = s.registered_retained;
-  doomed_cut_off = s.doomed_cut_off;
-  doomed_born = s.doomed_born;
-  phase = subst (λ (p : Phase). IsPhaseSound p settings.sweep (without_husks store births)) (sym sweeping) (subst (λ (p : Phase). IsPhaseSound p settings.sweep store) sweeping s.phase);
-  links = s.links;
-  births = record {
-    next_above = s.births.next_above;
-    born = λ x t. s.births.born x (before x t);
-    differ = distinct-part (map (λ (object : Object). object.birth) store.kept) (λ h. not (is_in h.0 births)) (λ h. h.0) store.husks s.births.differ;
-    homes_rise = KeysRise-entries_where (λ x. not (is_freed store (λ y. is_in y births) x)) store.homes s.births.homes_rise;
-    homes_differ = λ x y place e f. s.births.homes_differ x y place (value-where (λ x. not (is_freed store (λ y. is_in y births) x)) store.homes x place e).0
-        (value-where (λ x. not (is_freed store (λ y. is_in y births) x)) store.homes y place f).0;
-    housed = λ x place e. let part = value-where (λ x. not (is_freed store (λ y. is_in y births) x)) store.homes x place e in
-        after x (s.births.housed x place part.0) (not-true (is_freed store (λ z. is_in z births) x) part.1);
-  };
-}
-  where
-    before : (x : ℕ) → IsTrue (is_in x (births_in (without_husks store births))) → IsTrue (is_in x (births_in store))
-    before x t = elim (in-either x (map (λ (object : Object). object.birth) store.kept) _ t) [
-      | inl a ↦ in-left x (map (λ (object : Object). object.birth) store.kept) _ a
-      | inr a ↦ in-right x (map (λ (object : Object). object.birth) store.kept) _ (entry_part (λ y. not (is_in y births)) store.husks x a).0
-    ]
-
-    passed : (x : ℕ) (hs : List (ℕ × ℕ)) → IsTrue (is_in x (map (λ (h : ℕ × ℕ). h.0) hs)) → is_in x births ≡ false → IsTrue (is_in x (map (λ (h : ℕ × ℕ). h.0) (filter (λ h. not (is_in h.0 births)) hs)))
-    passed x [] t e = absurd (is_in-nil x t)
-    passed x (h ∷ hs) t e = go (is_in h.0 births) refl (is_in-cases x h.0 (map (λ (h : ℕ × ℕ). h.0) hs) t) (λ u. passed x hs u e)
-      where
-        go : (b : Bool) → is_in h.0 births ≡ b → (x ≡ h.0) ⊎ IsTrue (is_in x (map (λ (h : ℕ × ℕ). h.0) hs))
-            → (IsTrue (is_in x (map (λ (h : ℕ × ℕ). h.0) hs)) → IsTrue (is_in x (map (λ (h : ℕ × ℕ). h.0) (filter (λ h. not (is_in h.0 births)) hs))))
-            → IsTrue (is_in x (map (λ (h : ℕ × ℕ). h.0) (filter (λ h. not (is_in h.0 births)) (h ∷ hs))))
-        go true b (inl is) more = absurd (let yes : is_in x births ≡ true = ap (λ (k : ℕ). is_in k births) is ∙ b in let no : ⊥ = cc in no)
-        go true b (inr u) more = rw b (more u)
-        go false b (inl is) more = rw b (subst (λ (k : ℕ). IsTrue (is_in k (h.0 ∷ map (λ (h : ℕ × ℕ). h.0) (filter (λ h. not (is_in h.0 births)) hs)))) (sym is) (is_in-head h.0 _))
-        go false b (inr u) more = rw b (is_in-tail x h.0 _ (more u))
-
-    unfreed : (a b : Bool) → (a && b) ≡ false → b ≡ true → a ≡ false
-    unfreed true true e t = e
-    unfreed false b e t = refl
-    unfreed true false e t = absurd (let no : ⊥ = cc in no)
-
-    after : (x : ℕ) → IsTrue (is_in x (births_in store)) → is_freed store (λ z. is_in z births) x ≡ false → IsTrue (is_in x (births_in (without_husks store births)))
-    after x t e = elim (in-either x (map (λ (object : Object). object.birth) store.kept) _ t) [
-      | inl a ↦ in-left x (map (λ (object : Object). object.birth) store.kept) _ a
-      | inr a ↦ in-right x (map (λ (object : Object). object.birth) store.kept) _ (passed x store.husks a (unfreed (is_in x births) (is_in x (map (λ (h : ℕ × ℕ). h.0) store.husks)) e a))
-    ]
 
 -- What is known where a unit is swept.
 pub record SweepsOne (heap : HeapParts) (store : Store) (s : PartsStandFor heap store) (new : Old) (memory : Memory) (births : List ℕ) : Type 0 where
@@ -338,7 +209,7 @@ module _ (heap : HeapParts) (store : Store) (s : PartsStandFor heap store) (swee
       ap (is_in (s.name p)) listed ∙ is_in-named s.name p s.husks t
 
   freed-husk : (p : ℕ) → IsTrue (is_in p s.husks) → (unit_at page_words p == o.unit) ≡ true → is_freed store (λ y. is_in y births) (s.name p) ≡ true
-  freed-husk p t e = and-all (is_in (s.name p) births) _ (freed-is p t ∙ e) (husk-of p t)
+  freed-husk p t e = and_both (is_in (s.name p) births) _ (freed-is p t ∙ e) (husk-of p t)
 
   -- the words of husks, those that stay and those that are freed
   husk-sum : husk_words store.husks ≡ husk_words (without_husks store births).husks + freed_words store.husks births
@@ -397,7 +268,7 @@ module _ (heap : HeapParts) (store : Store) (s : PartsStandFor heap store) (swee
     links = s.links;
     homes = record {
       told = λ birth at e.
-          let was = value-where (λ x. not (is_freed store (λ y. is_in y births) x)) store.homes birth at e in
+          let was = found_where (λ x. not (is_freed store (λ y. is_in y births) x)) store.homes birth at e in
           elim (s.homes.told birth at was.0) [
             | inl is ↦ inl (record {
               there = elim (in-either at (old_places s.places) s.husks is.there) [
@@ -414,7 +285,7 @@ module _ (heap : HeapParts) (store : Store) (s : PartsStandFor heap store) (swee
             | inr is ↦ inr is
           ];
       reserved = s.homes.reserved;
-      known = λ p at e. value-still (λ x. not (is_freed store (λ y. is_in y births) x)) store.homes (s.name p) (ap not (not-freed p (young-is_in s.places p (s.homes.reserved p at e)).0)) ∙ s.homes.known p at e;
+      known = λ p at e. kept_where (λ x. not (is_freed store (λ y. is_in y births) x)) store.homes (s.name p) (ap not (not-freed p (young-is_in s.places p (s.homes.reserved p at e)).0)) ∙ s.homes.known p at e;
     };
     gray = s.gray;
     gray_phase = s.gray_phase;
@@ -435,7 +306,7 @@ module _ (heap : HeapParts) (store : Store) (s : PartsStandFor heap store) (swee
         let many : length s.waiting ≡ suc (length o.rest) = ap (length {A = ℕ}) o.waits in (shorter before.0 many, before.1));
     made = record { ranges = s.made.ranges; words = s.made.words; pins = s.made.pins; card = s.made.card; arena = o.step.arena_words ∙ s.made.arena; small = o.step.sizes.small ∙ s.made.small; page = o.step.sizes.page ∙ s.made.page };
     order = s.order;
-    sound = husks_sound settings store births store-sweeping s.sound;
+    sound = husks_sound settings store (λ x. is_in x births) store-sweeping s.sound;
   }
     where
       shorter : length s.waiting ≤ store.left * heap.setup.settings.sweep → length s.waiting ≡ suc (length o.rest) → length o.rest ≤ store.left * heap.setup.settings.sweep
@@ -513,7 +384,7 @@ module _ (heap : HeapParts) (store : Store) (s : PartsStandFor heap store) (swee
 
   lost-one : 1099511627776 ≤ o.unit → length lost ≤ 1
   lost-one high = one-of (λ p. word_in heap (p + 1)) o.unit lost at (subst (λ (xs : List ℕ). IsDistinct nat_eq xs) births-are
-      (distinct-part [] (λ h. is_in h.0 births) (λ h. h.0) store.husks (distinct-right (map (λ (object : Object). object.birth) store.kept) _ s.sound.births.differ)))
+      (distinct-less [] (λ h. is_in h.0 births) (λ h. h.0) store.husks (distinct-right (map (λ (object : Object). object.birth) store.kept) _ s.sound.births.differ)))
     where
       births-are : map (λ (h : ℕ × ℕ). h.0) (husks_where store.husks (λ x. is_in x births)) ≡ map (λ p. word_in heap (p + 1)) lost
       births-are = ap (map (λ (h : ℕ × ℕ). h.0)) freed-husks ∙ map-map (λ (h : ℕ × ℕ). h.0) (husk_at types (word_in heap)) lost

@@ -1,12 +1,12 @@
 -- A step of sweeping: some units are swept, and the phase changes where none is left.
 use Rattle.std.proofs.Common.{◌≡◌, ◌≢◌, ℕ, zero, suc, ◌+◌, ◌*◌, ◌≤◌, ◌<◌, ◌⊎◌, Bool, true, false, IsTrue, List, [], ◌∷◌, ◌++◌, map, length, refl, sym, ap, ap₂, ◌∙◌, subst, inl, inr, arith}
-use Rattle.std.specs.Prelude.{min, nat_le, nat_lt, sum_by, not, ◌-◌, ◌==◌, ◌&&◌, ◌||◌, filter}
+use Rattle.std.specs.Prelude.{min, nat_le, nat_lt, sum_by, not, ◌-◌, ◌==◌, ◌&&◌, ◌||◌, filter, if◌then◌else◌}
 use Rattle.std.proofs.lemmas.Bool.{cases_lt}
 use Rattle.std.proofs.lemmas.List.Folds.{list_any-append}
 use Rattle.type_table.specs.Table.{Table, KeysRise}
 use Rattle.heap_space.specs.Memory.{Memory}
-use Rattle.object_view.proofs.WordLaws.{is_in-head}
-use Rattle.old_space.specs.Sweeping.{SweepsLowest}
+use Rattle.object_model.proofs.Members.{is_in-head, in-right}
+use Rattle.old_space.specs.Sweeping.{SweepsLowest, in_unit, units_left}
 use Rattle.old_space.specs.declared.Old.{Old}
 use Rattle.sweep_steps.specs.Steps.{Sweeps, Done, Then}
 use Rattle.text_model.specs.declared.line.Phase.{Phase}
@@ -18,8 +18,8 @@ use Rattle.std.proofs.lemmas.List.Sums.{sum_by-cons}
 use Rattle.std.proofs.lemmas.Nat.{mul-le}
 use Rattle.store_model.specs.Sweeping.{husks_where, is_freed, after_sweep, CanBe, SweepingStep}
 use Rattle.store_model.specs.Sound.{IsSound, IsPhaseSound}
-use Rattle.heap_parts.specs.Parts.{HeapParts, word_in}
-use Rattle.heap_parts.specs.OldSpace.{AreUnitsSwept, is_waiting, husk_at}
+use Rattle.heap_parts.specs.Parts.{HeapParts, word_in, home_in}
+use Rattle.heap_parts.specs.OldSpace.{AreUnitsSwept, is_waiting, husk_at, blocks_of, unit_at}
 use Rattle.heap_parts.specs.Order.{IsGrayOf}
 use Rattle.heap_parts.specs.Headers.{is_marked}
 use Rattle.heap_parts.specs.StandsFor.{PartsStandFor, HoldsVisited}
@@ -27,27 +27,20 @@ use Rattle.heap_phases.specs.Swept.{without_husks, swept_parts, freed_words}
 use Rattle.heap_phases.proofs.SweepStands.{SweepsOne, unit_stands, unit_waiting, unit_freed, unit_few_small, unit_few_large}
 use Rattle.heap_phases.proofs.UnitOffers.{waits_once, units_tell, units_counted}
 use Rattle.old_space.specs.HasBlocks.{HasBlocks}
-use Rattle.old_space.specs.Sweeping.{in_unit, units_left}
-use Rattle.std.proofs.lemmas.Bool.Decides.{nat_tests}
-use Rattle.std.specs.Prelude.{if◌then◌else◌}
+use Rattle.std.proofs.lemmas.Bool.Decides.{nat_tests, eqb_tells}
 use Rattle.heap_space.specs.Extents.{Extent, Each}
-use Rattle.heap_parts.specs.Places.{young_places, old_places}
-use Rattle.heap_parts.specs.OldSpace.{blocks_of, unit_at}
-use Rattle.heap_parts.specs.Parts.{home_in}
+use Rattle.heap_parts.specs.Places.{young_places, old_places, RiseBetween}
 use Rattle.std.specs.List.Sorted.{IsPermutation, IsNonDecreasing}
 use Rattle.std.proofs.lemmas.List.{map-append}
 use Rattle.std.proofs.lemmas.List.Sorted.{IsPermutation-refl, IsPermutation-sym, IsPermutation-trans, IsPermutation-map, IsPermutation-filter_both, IsPermutation-append_left, IsPermutation-append_right}
 use Rattle.text_model.specs.declared.line.Line.{Line}
 use Rattle.text_model.specs.declared.line.Line.TheVariants.{Stepped, Freed}
-use Rattle.heap_parts.specs.Places.{RiseBetween}
 use Rattle.heap_parts.proofs.RiseLines.{sorted_births, keys_between}
-use Rattle.heap_parts.proofs.Members.{in-right}
-use Rattle.heap_phases.proofs.EndSound.{entry_part}
+use Rattle.store_model.proofs.MarkedSound.{entry_part}
 use Rattle.object_model.specs.Object.{Object}
 use Rattle.type_table.proofs.TableLaws.{KeysRise-entries_where}
 use Rattle.std.proofs.lemmas.Simd.{map-map}
 use Rattle.heap_parts.proofs.Filters.{filter_all}
-use Rattle.std.proofs.lemmas.Bool.Decides.{eqb_tells}
 
 -- the phase of the heap
 abbrev pub in_phase : HeapParts → Phase → HeapParts

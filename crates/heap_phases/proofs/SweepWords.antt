@@ -1,13 +1,13 @@
 -- One unit is swept: words, blocks and husks.
 use Rattle.std.proofs.Common.{◌≡◌, ℕ, ◌+◌, ◌≤◌, ◌<◌, ◌⊎◌, Bool, true, false, IsTrue, List, [], ◌∷◌, ◌++◌, map, append-nil, Option, Some, None, refl, sym, ap, ap₂, ◌∙◌, subst, inl, inr, arith}
-use Rattle.std.specs.Prelude.{not, ◌==◌, ◌&&◌, ◌||◌, ◌%◌, filter, option_map, if◌then◌else◌}
+use Rattle.std.specs.Prelude.{not, ◌==◌, ◌&&◌, ◌||◌, ◌%◌, filter, option_map, if◌then◌else◌, IsSome}
 use Rattle.std.specs.List.{cons_option}
 use Rattle.std.specs.List.Sorted.{IsPermutation}
 use Rattle.std.proofs.lemmas.Bool.{cases_Bool, eq-eqb, ne_eqb}
 use Rattle.std.proofs.lemmas.Bool.Decides.{eqb_tells}
 use Rattle.std.proofs.lemmas.List.Elements.{filter-append}
 use Rattle.type_table.specs.declared.info.TypeInfo.{TypeInfo}
-use Rattle.type_table.specs.Table.{Table}
+use Rattle.type_table.specs.Table.{Table, value_at}
 use Rattle.heap_space.specs.Places.{lies_in_one, word_at}
 use Rattle.heap_space.specs.Memory.{Memory}
 use Rattle.heap_space.specs.Extents.{Extent, Each, IsInside}
@@ -17,10 +17,10 @@ use Rattle.object_header.specs.Words.{has_flag, without_flag}
 use Rattle.object_header.specs.declared.flags.Flag.TheVariants.{Visited}
 use Rattle.object_header.proofs.WordLaws.{type_of-without_flag, IsHeader-without_flag, without_flag-stays}
 use Rattle.size_pages.specs.Headers.{IsHeaded}
-use Rattle.object_view.proofs.WordLaws.{is_in-head, is_in-tail, is_in-cases, map-same, updated-here, updated-other}
+use Rattle.object_view.proofs.WordLaws.{updated-here, updated-other}
+use Rattle.object_model.proofs.Members.{is_in-head, is_in-tail, is_in-cases, map-same, filter-part, filter-agree, in-left, in-right, not-true}
 use Rattle.object_view.proofs.LayoutLaws.{KeepsLayout, SameAt, laid_out, keeps-same, info_at-same, object_from-same}
 use Rattle.object_view.proofs.FrameLaws.{keeps-header, header-same, same_hold}
-use Rattle.object_view.proofs.SurvivorLaws.{filter-part}
 use Rattle.old_space.specs.HasBlocks.{HasBlocks, IsBlock}
 use Rattle.old_space.specs.Sweeping.{SweepsLowest, SweepsUnit, in_unit, dies, kept_blocks, dead_blocks, swept_word}
 use Rattle.old_space.specs.declared.Old.{Old}
@@ -33,22 +33,17 @@ use Rattle.object_model.specs.Shapes.{is_weak_shape}
 use Rattle.object_model.specs.ObjectWords.{updated, words_at, layout_at, object_from}
 use Rattle.object_model.specs.Holds.{HoldsObjects, IsPointer}
 use Rattle.heap_parts.specs.Places.{is_young, young_places, old_places, block_at, is_weak_at, AreWhole}
-use Rattle.heap_parts.specs.Nursery.{HoldsNursery, AreWalks}
+use Rattle.heap_parts.specs.Nursery.{HoldsNursery, AreWalks, walked}
 use Rattle.heap_parts.specs.OldSpace.{reserved_blocks, reserved_homes, blocks_of, husk_at, HoldsHusks, unit_at, is_waiting}
 use Rattle.heap_parts.specs.StandsFor.{HoldsWords, HoldsHeaders}
-use Rattle.heap_parts.proofs.Members.{filter-agree, each-left, each-right}
+use Rattle.heap_parts.proofs.Members.{each-left, each-right}
 use Rattle.heap_parts.proofs.PlaceLaws.{young-is_in, old-is_in, is_in-old, is_in-young}
 use Rattle.heap_parts.proofs.BlockLaws.{each-member, lies-kept}
-use Rattle.heap_parts.proofs.SameLayouts.{SameLayouts}
+use Rattle.heap_parts.proofs.SameLayouts.{SameLayouts, walk-same}
 use Rattle.heap_parts.proofs.KeepWords.{SameObjects, blocks_same}
-use Rattle.heap_parts.proofs.SameLayouts.{walk-same}
 use Rattle.nursery_gaps.specs.Ranges.{Range}
-use Rattle.heap_parts.specs.Nursery.{walked}
-use Rattle.heap_parts.proofs.Members.{in-left, in-right}
 use Rattle.std.proofs.lemmas.List.Sorted.{list_any-IsPermutation}
-use Rattle.std.specs.Prelude.{IsSome}
-use Rattle.type_table.specs.Table.{value_at}
-use Rattle.heap_parts.proofs.Filters.{filter_at, not-true}
+use Rattle.heap_parts.proofs.Filters.{filter_at}
 use Rattle.heap_parts.proofs.WriteWords.{each-reserved, each-both}
 
 pub each-of-places : (P : Extent → Type 0) (f : ℕ → Extent) (ps : List ℕ) → ((p : ℕ) → IsTrue (is_in p ps) → P (f p)) → Each P (map f ps)

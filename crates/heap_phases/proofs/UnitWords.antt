@@ -12,7 +12,7 @@ use Rattle.size_pages.specs.PageWords.{word_in, PageHolds}
 use Rattle.size_pages.specs.LiveBlocks.{page_at, in_page, blocks_of}
 use Rattle.size_pages.specs.HasBlocks as pages
 use Rattle.size_pages.specs.declared.Pages.{Pages}
-use Rattle.object_view.proofs.WordLaws.{is_in-head, is_in-tail}
+use Rattle.object_model.proofs.Members.{is_in-head, is_in-tail}
 use Rattle.object_model.specs.Sets.{is_in}
 use Rattle.old_space.specs.HasBlocks.{HasBlocks}
 use Rattle.old_space.specs.declared.Old.{Old}

@@ -3,7 +3,7 @@ use Rattle.std.proofs.Common.{◌≡◌, ◌≢◌, ℕ, zero, suc, ◌+◌, ◌
 use Rattle.std.specs.Prelude.{not, ◌==◌, filter, filter_map}
 use Rattle.std.proofs.lemmas.Bool.{cases_Bool}
 use Rattle.std.proofs.lemmas.Bool.Decides.{eqb_tells}
-use Rattle.object_view.proofs.WordLaws.{is_in-head, is_in-tail, is_in-cases, is_in-nil}
+use Rattle.object_model.proofs.Members.{is_in-head, is_in-tail, is_in-cases, is_in-nil, filter-part, filter-member}
 use Rattle.object_view.proofs.LayoutLaws.{laid_out}
 use Rattle.object_view.proofs.FoundLaws.{found-at, refs-from}
 use Rattle.object_model.specs.Object.{Object, object_at}
@@ -18,8 +18,6 @@ use Rattle.heap_parts.specs.Places.{is_young, old_places}
 use Rattle.heap_parts.specs.StandsFor.{PartsStandFor}
 use Rattle.heap_parts.proofs.MinorNeeds.{settled_place}
 use Rattle.heap_phases.specs.Visiting.{old_refs}
-use Rattle.heap_parts.specs.Places.{old_places}
-use Rattle.object_view.proofs.SurvivorLaws.{filter-part, filter-member}
 
 pub each-ref : (places : List ℕ) (w : ℕ → ℕ) (start n : ℕ) → ((j : ℕ) → j < n → IsPointer places (w (start + j))) → (q : ℕ) → IsTrue (is_in q (words_from w start n)) → IsPointer places q
 each-ref places w start zero at q t = absurd (is_in-nil q t)

@@ -10,7 +10,8 @@ use Rattle.object_header.specs.Words.{has_flag, with_flag}
 use Rattle.object_header.specs.declared.flags.Flag.{Flag}
 use Rattle.object_header.specs.declared.flags.Flag.TheVariants.{Track, Visited, HasCards, CardsSet}
 use Rattle.object_header.proofs.WordLaws.{has_flag-with_flag_other, has_flag-with_flag_same, IsHeader-with_flag, type_of-with_flag}
-use Rattle.object_view.proofs.WordLaws.{updated-here, updated-other, is_in-last, is_in-append, is_in-before}
+use Rattle.object_view.proofs.WordLaws.{updated-here, updated-other}
+use Rattle.object_model.proofs.Members.{is_in-last, is_in-append, is_in-before}
 use Rattle.object_view.proofs.LayoutLaws.{laid_out, info_at-same}
 use Rattle.object_view.proofs.SpaceLaws.{word_at-written, lies-at}
 use Rattle.object_view.proofs.FrameLaws.{flag_holds}
@@ -19,7 +20,6 @@ use Rattle.text_model.specs.declared.line.Phase.TheVariants.{Marking}
 use Rattle.object_model.specs.Layout.{Layout}
 use Rattle.store_model.specs.Store.{Store}
 use Rattle.object_model.specs.Sets.{is_in}
-use Rattle.store_model.specs.Sound.{IsSound, IsPhaseSound}
 use Rattle.object_model.specs.ObjectWords.{updated, words_at}
 use Rattle.object_model.specs.Holds.{HoldsObjects}
 use Rattle.store_model.specs.MarkingOrder.{IsInOrder}
@@ -37,42 +37,7 @@ use Rattle.heap_parts.proofs.BarrierLaws.{firsts-but}
 use Rattle.heap_phases.proofs.EndHeaders.{settled_marked}
 use Rattle.heap_parts.proofs.MinorNeeds.{settled_place}
 use Rattle.heap_phases.specs.Visiting.{with_visit}
-
-abbrev pub visited_too : Store → ℕ → Store
-visited_too store birth = record store { visited = store.visited ++ birth ∷ [] }
-
-pub visit_sound : (heap : HeapParts) (store : Store) (x : ℕ) → store.phase ≡ Marking → IsTrue (is_in x store.settled) → IsFalse (is_in x store.unreached)
-    → IsSound heap.setup.settings store → IsSound heap.setup.settings (visited_too store x)
-visit_sound heap store x marking settled reached s =
-    let p : IsPhaseSound Marking heap.setup.settings.sweep store = subst (λ (ph : Phase). IsPhaseSound ph heap.setup.settings.sweep store) marking s.phase in
-    record {
-      fields = s.fields;
-      settled = s.settled;
-      roots = s.roots;
-      registered = s.registered;
-      pins = s.pins;
-      waiting = s.waiting;
-      queues_rise = s.queues_rise;
-      once = s.once;
-      roots_reached = s.roots_reached;
-      unreached_cut_off = s.unreached_cut_off;
-      unreached_born = s.unreached_born;
-      roots_retained = s.roots_retained;
-      registered_retained = s.registered_retained;
-      doomed_cut_off = s.doomed_cut_off;
-      doomed_born = s.doomed_born;
-      phase = subst (λ (ph : Phase). IsPhaseSound ph heap.setup.settings.sweep (visited_too store x)) (sym marking) (
-        p.0,
-        p.1,
-        record {
-          visited_settled = λ y t. elim (is_in-append store.visited x y t) [ inl e ↦ subst (λ (k : ℕ). IsTrue (is_in k store.settled)) (sym e) settled | inr u ↦ p.2.visited_settled y u ];
-          visited_reached = λ y t. elim (is_in-append store.visited x y t) [ inl e ↦ subst (λ (k : ℕ). IsFalse (is_in k store.unreached)) (sym e) reached | inr u ↦ p.2.visited_reached y u ];
-          doomed_unreached = p.2.doomed_unreached;
-        },
-      );
-      links = s.links;
-      births = s.births;
-    }
+use Rattle.store_model.proofs.VisitSound.{visited_too, visit_sound}
 
 pub visit_stands : (heap : HeapParts) (store : Store) (p : ℕ) (gray : List ℕ) (s : PartsStandFor heap store) → heap.phase ≡ Marking → IsTrue (is_in p (old_places s.places))
     → IsFalse (is_in (s.name p) store.unreached) → AreAmong (old_places s.places) gray
@@ -169,7 +134,7 @@ visit_stands heap store p gray s marking t reached among order =
       units = s.units;
       made = record { ranges = s.made.ranges; words = s.made.words; pins = s.made.pins; card = s.made.card; arena = s.made.arena; small = s.made.small; page = s.made.page };
       order = order;
-      sound = visit_sound heap store (s.name p) (s.counts.phase_is ∙ marking) settled reached s.sound;
+      sound = visit_sound heap.setup.settings store (s.name p) (s.counts.phase_is ∙ marking) settled reached s.sound;
     }
 
 pub visit_places : (heap : HeapParts) (store : Store) (p : ℕ) (gray : List ℕ) (s : PartsStandFor heap store) (marking : heap.phase ≡ Marking) (t : IsTrue (is_in p (old_places s.places)))

@@ -1,19 +1,16 @@
 -- What sweeping makes of the parts of a heap and of the store.
 use Rattle.std.specs.Prelude.{ℕ, ◌-◌, not, List}
-use Rattle.type_table.specs.Table.{Table, entries_where}
+use Rattle.type_table.specs.Table.{Table}
 use Rattle.heap_space.specs.Memory.{Memory}
 use Rattle.old_space.specs.declared.Old.{Old}
 use Rattle.object_model.specs.Sets.{is_in}
 use Rattle.store_model.specs.Store.{Store, husk_words}
-use Rattle.store_model.specs.Sweeping.{husks_where, is_freed}
+use Rattle.store_model.specs.Sweeping.{husks_where, without_husks as without}
 use Rattle.heap_parts.specs.Parts.{HeapParts}
 
 -- the store without the husks of these births, in the same phase
 abbrev pub without_husks : Store → List ℕ → Store
-without_husks store births = record store {
-  husks = husks_where store.husks (λ x. not (is_in x births));
-  homes = entries_where (λ x. not (is_freed store (λ y. is_in y births) x)) store.homes;
-}
+without_husks store births = without store (λ x. is_in x births)
 
 -- the words of the husks of these births
 abbrev pub freed_words : Table ℕ → List ℕ → ℕ

@@ -6,12 +6,11 @@ use Rattle.std.proofs.lemmas.Map.Keys.{IsDistinct-IsPermutation}
 use Rattle.heap_parts.specs.Nursery.{walked}
 use Rattle.std.specs.Prelude.{not, ◌||◌, is_some, filter, filter_map, ◌==◌}
 use Rattle.std.proofs.lemmas.Bool.{cases_Bool}
-use Rattle.object_view.proofs.WordLaws.{map-same, is_in-nil}
+use Rattle.object_model.proofs.Members.{map-same, is_in-nil, and_both, and_first, filter-part, in-left, in-right, or_first, is_in-named}
 use Rattle.object_view.proofs.FoundLaws.{found-at, length-refs}
 use Rattle.object_view.proofs.ForwardLaws.{header-unmarked}
 use Rattle.std.proofs.lemmas.List.Sorted.{list_any-IsPermutation, IsPermutation-map, IsPermutation-sym}
 use Rattle.std.specs.List.Sorted.{IsPermutation}
-use Rattle.object_view.proofs.SurvivorLaws.{filter-part}
 use Rattle.object_view.proofs.MovingLaws.{none_moving}
 use Rattle.object_model.specs.Object.{Object, object_at}
 use Rattle.store_model.specs.Store.{Store}
@@ -26,18 +25,15 @@ use Rattle.heap_parts.specs.Parts.{HeapParts, word_in, pinned_places}
 use Rattle.heap_parts.specs.Places.{young_places, is_young, old_places, AreAmong, is_weak_at}
 use Rattle.heap_parts.specs.StandsFor.{PartsStandButYoung}
 use Rattle.heap_parts.proofs.BirthNames.{listed}
-use Rattle.heap_parts.proofs.Births.{is_in-named, rise-differ}
-use Rattle.heap_parts.proofs.HeldLaws.{or-first}
+use Rattle.heap_parts.proofs.Births.{rise-differ}
 use Rattle.heap_parts.proofs.PlaceLaws.{young-is_in, old-is_in, is_in-old, named-by, settled-old, placed_words}
-use Rattle.heap_parts.proofs.ReachLaws.{LeadsTo-start, and_both, and_first}
-use Rattle.heap_parts.proofs.Members.{in-left, in-right}
-use Rattle.minor_collect.proofs.NamedObjects.{weak_named}
+use Rattle.store_model.proofs.Rounds.{LeadsTo-start}
+use Rattle.minor_collect.proofs.NamedObjects.{weak_named, eq-flips}
 use Rattle.minor_collect.specs.Carried.{Carried, births_read, weak_births, none_moved}
 use Rattle.minor_collect.specs.Traces.{Traces}
 use Rattle.minor_collect.specs.Entries.{has_remembered_referrer}
 use Rattle.minor_collect.specs.Midway.{Midway, Changing, Owes, Follows}
 use Rattle.minor_collect.proofs.EndBirths.{rise_part}
-use Rattle.minor_collect.proofs.NamedObjects.{eq-flips}
 
 -- what changes, as it is at the beginning
 abbrev pub changing_of : HeapParts → Changing
@@ -108,7 +104,7 @@ module _ {start : HeapParts} {store : Store} {left : List ℕ} {owes : Owes} (s 
   pinned-unsettled x t = rw (pinned-kept x t, s.sound.pins.unsettled x t) refl
 
   pinned-entry : (x : ℕ) → IsTrue (is_in x (pinned_births store)) → IsTrue (is_entry store (has_remembered_referrer store (is_held_of start.remembered s.name)) x)
-  pinned-entry x t = and_both (is_unsettled store x) _ (pinned-unsettled x t) (or-first (is_root store x) _ (pin-root x t))
+  pinned-entry x t = and_both (is_unsettled store x) _ (pinned-unsettled x t) (or_first (is_root store x) _ (pin-root x t))
 
   -- the trace begins with the pinned objects, which refer to nothing
   trace-begins : Traces (is_entry store (has_remembered_referrer store (is_held_of start.remembered s.name))) (refers_unsettled store) (is_unsettled store) (pinned_births store) [] left

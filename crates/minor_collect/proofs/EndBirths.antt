@@ -20,8 +20,8 @@ use Rattle.heap_parts.specs.Places.{is_young, young_places, old_places, RiseBetw
 use Rattle.store_model.specs.Roots.{pinned_births}
 use Rattle.heap_parts.specs.Lists.{HoldsList}
 use Rattle.heap_parts.specs.StandsFor.{HoldsSums}
-use Rattle.heap_parts.proofs.Births.{map-births, is_in-named, rise-lower}
-use Rattle.heap_parts.proofs.Members.{filter-agree}
+use Rattle.heap_parts.proofs.Births.{map-births, rise-lower}
+use Rattle.object_model.proofs.Members.{is_in-named, filter-agree}
 use Rattle.heap_parts.proofs.PlaceLaws.{young-is_in, named-by, placed_words}
 use Rattle.minor_collect.specs.Midway.{Follows, Owes}
 

@@ -13,7 +13,7 @@ use Rattle.type_table.specs.Table.{Table}
 use Rattle.heap_space.specs.Memory.{Memory}
 use Rattle.heap_space.specs.Extents.{Extent}
 use Rattle.large_objects.specs.Blocks.{without_place}
-use Rattle.object_view.proofs.WordLaws.{is_in-cases, is_in-nil}
+use Rattle.object_model.proofs.Members.{is_in-cases, is_in-nil, filter_map-agree, not-in}
 use Rattle.old_space.specs.HasBlocks.{HasBlocks}
 use Rattle.old_space.specs.Calls.{still_waiting}
 use Rattle.old_space.specs.declared.Old.{Old}
@@ -22,9 +22,7 @@ use Rattle.object_model.specs.Sets.{is_in}
 use Rattle.object_model.specs.ObjectWords.{words_at}
 use Rattle.heap_parts.specs.Places.{block_at}
 use Rattle.heap_parts.specs.OldSpace.{reserved_block, reserved_blocks, blocks_of, unit_at, is_waiting}
-use Rattle.heap_parts.proofs.Members.{filter_map-agree}
 use Rattle.minor_collect.specs.Ending.{DoDiffer}
-use Rattle.minor_collect.proofs.SameMembers.{not-in}
 
 -- the homes without that of one object
 abbrev pub without_home : (ℕ → Option ℕ) → ℕ → ℕ → Option ℕ

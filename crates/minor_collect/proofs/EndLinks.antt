@@ -5,7 +5,7 @@ use Rattle.std.specs.List.{cons_option}
 use Rattle.std.proofs.lemmas.Bool.{cases_Bool}
 use Rattle.std.proofs.lemmas.Bool.Decides.{eqb_tells}
 use Rattle.type_table.specs.Table.{Table, value_at}
-use Rattle.object_view.proofs.WordLaws.{is_in-head, is_in-tail, is_in-cases, is_in-nil}
+use Rattle.object_model.proofs.Members.{is_in-head, is_in-tail, is_in-cases, is_in-nil}
 use Rattle.text_model.specs.declared.line.Fate.{Fate}
 use Rattle.text_model.specs.declared.line.Fate.TheVariants as fate
 use Rattle.text_model.specs.declared.line.LinkEnd.{LinkEnd}

@@ -8,7 +8,7 @@ use Rattle.heap_space.specs.Places.{lies_in_one, word_at}
 use Rattle.heap_space.specs.Memory.{Memory}
 use Rattle.nursery_gaps.specs.Ranges.{Range, AreRising}
 use Rattle.nursery_gaps.specs.Nursery.{Layout as NurseryLayout, IsLaidOut}
-use Rattle.object_view.proofs.WordLaws.{is_in-head, is_in-tail}
+use Rattle.object_model.proofs.Members.{is_in-head, is_in-tail}
 use Rattle.object_view.proofs.LayoutLaws.{laid_out}
 use Rattle.object_model.specs.Object.{Object}
 use Rattle.object_model.specs.Sets.{is_in}

@@ -6,7 +6,7 @@ use Rattle.store_model.specs.Sound.{AreCutOff, AreKept}
 use Rattle.store_model.specs.MarkingOrder.{IsItem, AreAllIn, is_known, YoungHeld, HeldSettled, IsInOrder, VisitsQueued}
 use Rattle.heap_parts.specs.Order.{IsInOrderButYoung}
 use Rattle.minor_collect.specs.Gray.{ComesGray}
-use Rattle.heap_parts.proofs.HeldLaws.{or-either, or-first, or-second}
+use Rattle.object_model.proofs.Members.{or_second, or_first, or_cases}
 
 -- What a minor collection does to what marking stands on: written items of visited objects are queued where they lead to what is
 -- settled now, and what leads to pinned objects is remembered.
@@ -20,9 +20,9 @@ pub record MinorChange (kept after : List Object) (settled settled_after visited
   pub held_settled : HeldSettled settled_after remembered_after
 
 known-more : (visited gray more : List ℕ) (y : ℕ) → AreAllIn gray more → IsTrue (is_known visited gray y) → IsTrue (is_known visited more y)
-known-more visited gray more y all t = elim (or-either (is_in y visited) (is_in y gray) t) [
-  | inl v ↦ or-first (is_in y visited) (is_in y more) v
-  | inr g ↦ or-second (is_in y visited) (is_in y more) (all y g)
+known-more visited gray more y all t = elim (or_cases (is_in y visited) (is_in y gray) t) [
+  | inl v ↦ or_first (is_in y visited) (is_in y more) v
+  | inr g ↦ or_second (is_in y visited) (is_in y more) (all y g)
 ]
 
 module _ {kept after : List Object} {settled settled_after visited gray gray_after : List ℕ} {remembered remembered_after : ℕ → ℕ → Bool} {unreached : List ℕ}

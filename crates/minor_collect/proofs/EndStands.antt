@@ -13,10 +13,9 @@ use Rattle.nursery_gaps.specs.Ranges.{words_between}
 use Rattle.nursery_gaps.specs.Nursery.{Layout as NurseryLayout}
 use Rattle.object_header.specs.Words.{has_flag}
 use Rattle.object_header.specs.declared.flags.Flag.TheVariants.{HasShadow, Visited, HasCards}
-use Rattle.object_view.proofs.WordLaws.{is_in-head, is_in-tail, is_in-cases, is_in-nil}
+use Rattle.object_model.proofs.Members.{is_in-head, is_in-tail, is_in-cases, is_in-nil, filter-part, filter-member, in-left, in-right, or_cases, or_first, or_second, is_in-named}
 use Rattle.object_view.proofs.FoundLaws.{found-at, ref-from, length-refs, kept_words-held}
 use Rattle.object_view.proofs.LayoutLaws.{info_at-same}
-use Rattle.object_view.proofs.SurvivorLaws.{filter-part, filter-member}
 use Rattle.text_model.specs.declared.line.Phase.{Phase}
 use Rattle.text_model.specs.declared.line.Phase.TheVariants.{Scanning, Marking, Sweeping, Finalizing}
 use Rattle.object_model.specs.Sets.{is_in}
@@ -38,12 +37,11 @@ use Rattle.heap_parts.specs.Headers.{is_marked, IsTracked, keeps_cards}
 use Rattle.heap_parts.specs.Lists.{HoldsLinks, named_entries, named_queues}
 use Rattle.heap_parts.specs.StandsFor.{PartsStandFor, PartsStandButYoung, HoldsHeaders, HoldsYoungFlags, HoldsRemembered, HoldsSums}
 use Rattle.heap_parts.proofs.BirthNames.{entries-names, listed}
-use Rattle.heap_parts.proofs.Births.{is_in-named, rise-differ}
-use Rattle.heap_parts.proofs.HeldLaws.{or-either, or-first, or-second, held_settled}
+use Rattle.heap_parts.proofs.Births.{rise-differ}
+use Rattle.heap_parts.proofs.HeldLaws.{held_settled}
 use Rattle.heap_parts.proofs.PlaceLaws.{young-is_in, old-is_in, is_in-young, is_in-old, named-by, placed_words}
 use Rattle.heap_parts.proofs.KeepWords.{firsts-stay}
 use Rattle.heap_parts.proofs.SameLayouts.{SameLayouts, sum-same}
-use Rattle.heap_parts.proofs.Members.{in-left, in-right}
 use Rattle.minor_collect.specs.Carried.{Moved}
 use Rattle.minor_collect.specs.Midway.{Midway, Changing, with_changing, Owes, is_lasting}
 use Rattle.minor_collect.specs.Ending.{Completes, ended_parts, left_places, stays, DoDiffer}
@@ -55,11 +53,10 @@ use Rattle.minor_collect.proofs.EndBirths.{settled_end, rise_part, end_sums, par
 use Rattle.minor_collect.proofs.EndHomes.{end_homes}
 use Rattle.minor_collect.proofs.EndLinks.{end_links}
 use Rattle.minor_collect.proofs.EndOrder.{MinorChange, minor_in_order}
-use Rattle.minor_collect.proofs.EndSound.{minor_sound}
-use Rattle.minor_collect.proofs.LinksSound.{minor_links_sound}
+use Rattle.store_model.proofs.MinorSound.{minor_sound, minor_links_sound}
 use Rattle.minor_collect.proofs.SameSurvivors.{tells_survives}
-use Rattle.minor_collect.proofs.Survives.{where_in}
-use Rattle.minor_collect.proofs.StoreAfter.{item_before}
+use Rattle.store_model.proofs.Survives.{where_in}
+use Rattle.store_model.proofs.StoreAfter.{item_before}
 
 -- first words of fewer places
 pub firsts-fewer : {P : ℕ → ℕ → Type 0} {ps qs : List ℕ} {w : ℕ → ℕ} → ((p : ℕ) → IsTrue (is_in p qs) → IsTrue (is_in p ps)) → OfFirsts P ps w → OfFirsts P qs w
@@ -111,9 +108,9 @@ held-item r name q i t = go r.held t
 
     go : (hs : List Held) → IsTrue (list_any (λ (h : Held). h.place == q && h.is_whole) hs) → IsTrue (list_any (λ (h : Held). name h.place == name q && holds_item r.card h i) hs)
     go [] u = absurd (let no : ⊥ = cc in no)
-    go (h ∷ hs) u = elim (or-either (h.place == q && h.is_whole) (list_any (λ (k : Held). k.place == q && k.is_whole) hs) u) [
-      | inl here ↦ or-first (name h.place == name q && holds_item r.card h i) _ (both h here)
-      | inr more ↦ or-second (name h.place == name q && holds_item r.card h i) _ (go hs more)
+    go (h ∷ hs) u = elim (or_cases (h.place == q && h.is_whole) (list_any (λ (k : Held). k.place == q && k.is_whole) hs) u) [
+      | inl here ↦ or_first (name h.place == name q && holds_item r.card h i) _ (both h here)
+      | inr more ↦ or_second (name h.place == name q && holds_item r.card h i) _ (go hs more)
     ]
 
 -- an item of an object in words

@@ -1,6 +1,6 @@
 -- Nothing is owed any more: what stays is what lies outside the nursery or is pinned, and leads only to what stays.
 use Rattle.std.proofs.Common.{◌≡◌, ◌≢◌, ℕ, ◌+◌, ◌<◌, ◌⊎◌, Bool, true, false, IsTrue, List, [], ◌∷◌, filter, Option, Some, None, refl, sym, ap, ◌∙◌, subst, inl, inr, arith}
-use Rattle.std.specs.Prelude.{not, ◌&&◌, ◌||◌, is_some, slice_get}
+use Rattle.std.specs.Prelude.{not, ◌&&◌, ◌||◌, is_some, slice_get, option_and_then}
 use Rattle.std.proofs.lemmas.Bool.{cases_Bool, ne_eqb}
 use Rattle.std.proofs.lemmas.Bool.Decides.{eqb_tells}
 use Rattle.type_table.specs.declared.info.TypeInfo.{TypeInfo}
@@ -16,18 +16,15 @@ use Rattle.store_model.specs.Reach.{Tells, Leads, refers}
 use Rattle.store_model.specs.MarkingOrder.{IsItem, YoungHeld}
 use Rattle.store_model.specs.MinorCollection.{is_unsettled, SurvivesBy, refers_unsettled}
 use Rattle.object_view.specs.Moving.{IsMoving, HasLeft}
-use Rattle.object_view.proofs.WordLaws.{is_in-nil, is_in-head, is_in-tail}
+use Rattle.object_model.proofs.Members.{is_in-nil, is_in-head, is_in-tail, and_first, and_second, filter-part, filter-member}
 use Rattle.object_view.proofs.LayoutLaws.{laid_out}
 use Rattle.object_view.proofs.FoundLaws.{found-at, ref-from}
-use Rattle.object_view.proofs.SurvivorLaws.{filter-part, filter-member}
 use Rattle.heap_parts.specs.Places.{is_young, young_places, old_places}
 use Rattle.heap_parts.proofs.SlotLaws.{pointer-some}
-use Rattle.heap_parts.proofs.ReachLaws.{and_first, and_second}
 use Rattle.minor_collect.specs.Entries.{has_remembered_referrer}
 use Rattle.minor_collect.specs.Midway.{Follows, Owes, is_lasting, IsLasting}
 use Rattle.minor_collect.specs.Ending.{stays, remaining}
 use Rattle.minor_collect.proofs.TraceLaws.{tells-found}
-use Rattle.std.specs.Prelude.{option_and_then}
 
 pub some-item : (refs : List (Option ℕ)) (i y : ℕ) → ref_in refs i ≡ Some y → slice_get refs i ≡ Some (Some y)
 some-item refs i y e = go (slice_get refs i) e

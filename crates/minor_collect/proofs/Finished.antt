@@ -9,9 +9,8 @@ use Rattle.heap_space.specs.Places.{lies_in_one, word_at}
 use Rattle.heap_space.specs.Extents.{Extent, Each, IsApart}
 use Rattle.nursery_gaps.specs.Nursery.{Layout as NurseryLayout}
 use Rattle.object_view.proofs.InitLaws.{lies-part}
-use Rattle.object_view.proofs.WordLaws.{is_in-cases, is_in-nil, map-same}
+use Rattle.object_model.proofs.Members.{is_in-cases, is_in-nil, map-same, filter-part, filter-agree, in-left, in-right}
 use Rattle.object_view.proofs.LayoutLaws.{laid_out, weak-at, SameAt, info_at-same, keeps-same}
-use Rattle.object_view.proofs.SurvivorLaws.{filter-part}
 use Rattle.old_space.specs.HasBlocks.{HasBlocks, IsBlock}
 use Rattle.old_space.proofs.JoinLaws.{HasBlocks-apart, HasBlocks-blocks}
 use Rattle.text_model.specs.declared.line.Phase.{Phase}
@@ -33,7 +32,7 @@ use Rattle.heap_parts.specs.Places.{is_young, young_places, old_places, block_at
 use Rattle.heap_parts.specs.OldSpace.{blocks_of, reserved_blocks, reserved_homes, AreUnitsSwept, HoldsHusks, husk_at}
 use Rattle.heap_parts.specs.StandsFor.{PartsStandButYoung}
 use Rattle.heap_parts.proofs.BlockLaws.{each-member}
-use Rattle.heap_parts.proofs.Members.{filter-agree, apart-both, each-left, each-right, in-left, in-right}
+use Rattle.heap_parts.proofs.Members.{apart-both, each-left, each-right}
 use Rattle.heap_parts.proofs.PlaceLaws.{is_in-young, is_in-old, young-is_in}
 use Rattle.minor_collect.specs.Carried.{Moved}
 use Rattle.minor_collect.specs.Midway.{Midway, Changing, with_changing, Owes, IsLasting}

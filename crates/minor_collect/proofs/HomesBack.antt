@@ -21,7 +21,8 @@ use Rattle.heap_parts.specs.Places.{is_young, young_places, old_places, block_at
 use Rattle.heap_parts.specs.OldSpace.{reserved_block, reserved_blocks, blocks_of}
 use Rattle.heap_parts.proofs.BlockLaws.{each-member}
 use Rattle.heap_parts.proofs.KeepWords.{blocks_same}
-use Rattle.heap_parts.proofs.Members.{filter_map-agree, in-either, each-left, each-right}
+use Rattle.heap_parts.proofs.Members.{each-left, each-right}
+use Rattle.object_model.proofs.Members.{filter_map-agree, in-either}
 use Rattle.heap_parts.proofs.PlaceLaws.{young-is_in}
 use Rattle.minor_collect.specs.Ending.{DoDiffer, remaining}
 use Rattle.minor_collect.specs.Homes.{KeepsAll, GivesHomes}

@@ -12,7 +12,7 @@ use Rattle.heap_space.specs.Places.{word_at}
 use Rattle.object_view.specs.Moving.{place_now}
 use Rattle.object_view.proofs.LayoutLaws.{birth-from, weak-at}
 use Rattle.object_view.proofs.FoundLaws.{info-from}
-use Rattle.object_view.proofs.SurvivorLaws.{filter-part, filter-member}
+use Rattle.object_model.proofs.Members.{filter-part, filter-member, and_first, and_second, and_both, filter-agree, is_in-named}
 use Rattle.text_model.specs.declared.line.Line.{Line}
 use Rattle.text_model.specs.declared.line.Line.TheVariants.{MinorDone, Cleared, Destroyed, LinkCut}
 use Rattle.text_model.specs.declared.line.LinkEnd.{LinkEnd}
@@ -31,14 +31,12 @@ use Rattle.heap_parts.specs.Parts.{HeapParts, pinned_places}
 use Rattle.heap_parts.specs.Places.{is_young, old_places, is_weak_at, RiseBetween}
 use Rattle.heap_parts.specs.StandsFor.{PartsStandButYoung}
 use Rattle.heap_parts.proofs.BirthNames.{listed}
-use Rattle.heap_parts.proofs.Births.{is_in-named, rise-differ}
-use Rattle.heap_parts.proofs.Members.{filter-agree}
+use Rattle.heap_parts.proofs.Births.{rise-differ}
 use Rattle.heap_parts.proofs.PlaceLaws.{named-by, settled-old}
-use Rattle.heap_parts.proofs.ReachLaws.{and_first, and_second, and_both}
 use Rattle.minor_collect.specs.Carried.{Moved}
 use Rattle.minor_collect.specs.Midway.{Midway, Changing, Owes, is_lasting}
 use Rattle.minor_collect.specs.Lines.{weaks_left, is_gone_pointer, loses_target, TellsLoss}
-use Rattle.minor_collect.proofs.Counts.{count_either}
+use Rattle.store_model.proofs.Counts.{count_either}
 use Rattle.minor_collect.proofs.Ended.{OwesNone}
 use Rattle.minor_collect.proofs.EndBirths.{births_named, settled_end, rise_part}
 use Rattle.minor_collect.proofs.EndLinks.{ends_same}

@@ -6,14 +6,13 @@ use Rattle.std.proofs.lemmas.Bool.{ne_eqb}
 use Rattle.std.proofs.lemmas.Bool.Decides.{eqb_tells}
 use Rattle.heap_space.specs.Places.{word_at}
 use Rattle.object_view.proofs.ForwardLaws.{header-unmarked}
-use Rattle.object_view.proofs.SurvivorLaws.{filter-part, filter-member}
+use Rattle.object_model.proofs.Members.{filter-part, filter-member, and_first, and_second, and_both}
 use Rattle.object_model.specs.Sets.{is_in}
 use Rattle.store_model.specs.Store.{Store}
 use Rattle.heap_parts.specs.Nursery.{walked}
 use Rattle.heap_parts.specs.Parts.{HeapParts, pinned_places}
 use Rattle.heap_parts.specs.Places.{is_young}
 use Rattle.heap_parts.proofs.PlaceLaws.{is_in-young}
-use Rattle.heap_parts.proofs.ReachLaws.{and_first, and_second, and_both}
 use Rattle.minor_collect.specs.Carried.{Moved}
 use Rattle.minor_collect.specs.Midway.{Midway, Changing, Owes, is_lasting}
 use Rattle.minor_collect.specs.Ending.{DoDiffer}

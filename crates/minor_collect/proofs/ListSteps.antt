@@ -1,12 +1,12 @@
 -- Slots, registered objects and links follow: the middle stays, and less is owed.
 use Rattle.std.proofs.Common.{◌≡◌, ◌≢◌, ℕ, zero, suc, ◌⊎◌, Bool, IsTrue, List, [], ◌∷◌, map, length, Option, Some, None, refl, sym, ap, ◌∙◌, subst, inl, inr}
-use Rattle.std.specs.Prelude.{not, ◌&&◌, ◌==◌, slice_get, slice_set, option_map, option_and_then}
+use Rattle.std.specs.Prelude.{not, ◌&&◌, ◌==◌, slice_get, slice_set, option_map, option_and_then, filter_map, true, false}
 use Rattle.std.proofs.lemmas.Bool.Decides.{eqb_tells}
 use Rattle.type_table.specs.declared.info.TypeInfo.{TypeInfo}
 use Rattle.type_table.specs.Table.{Table, KeysRise, value_at}
 use Rattle.heap_space.specs.Extents.{Extent}
 use Rattle.object_view.specs.Moving.{IsMoving, place_now}
-use Rattle.object_view.proofs.WordLaws.{is_in-head, is_in-tail, is_in-cases, is_in-nil}
+use Rattle.object_model.proofs.Members.{is_in-head, is_in-tail, is_in-cases, is_in-nil, and_both}
 use Rattle.object_model.specs.Object.{Object}
 use Rattle.object_model.specs.Sets.{is_in}
 use Rattle.store_model.specs.Store.{Store, Struct, Linked, Unlinked, Pending}
@@ -16,16 +16,13 @@ use Rattle.object_model.specs.Holds.{HoldsObjects, IsPointer}
 use Rattle.heap_parts.specs.Parts.{HeapParts}
 use Rattle.heap_parts.specs.Lists.{HoldsSlots, HoldsEntries, HoldsLinks}
 use Rattle.heap_parts.proofs.BirthNames.{links_agree, rises-unnamed}
-use Rattle.heap_parts.proofs.ReachLaws.{and_both}
-use Rattle.heap_parts.proofs.StructLaws.{value_at-objects, behind-first, first-value}
+use Rattle.store_model.proofs.StructLaws.{value_at-objects, behind-first, first-value}
 use Rattle.minor_collect.specs.Carried.{Moved}
-use Rattle.minor_collect.specs.Midway.{Midway, Changing, Owes, FollowsLists, IsLasting}
+use Rattle.minor_collect.specs.Midway.{Midway, Changing, Owes, FollowsLists, IsLasting, is_lasting}
 use Rattle.minor_collect.proofs.Weaks.{now_place}
 use Rattle.minor_collect.proofs.NamedObjects.{map-id}
-use Rattle.std.specs.Prelude.{filter_map, true, false}
 use Rattle.std.specs.List.{cons_option}
 use Rattle.type_table.proofs.TableLaws.{KeysRise-tail}
-use Rattle.minor_collect.specs.Midway.{is_lasting}
 
 -- lists that name the same objects
 pub midway_lists : {start : HeapParts} {store : Store} {remembered : ℕ → ℕ → Bool} {now : Changing} {todo held left : List ℕ} {owes : Owes} {moved : Moved} {taken : List Extent}

@@ -9,15 +9,13 @@ use Rattle.std.proofs.lemmas.List.Sorted.{IsPermutation-refl, IsPermutation-cons
 use Rattle.type_table.specs.declared.info.TypeInfo.{TypeInfo}
 use Rattle.type_table.specs.Table.{Table}
 use Rattle.heap_space.specs.Extents.{Extent}
-use Rattle.object_view.proofs.WordLaws.{map-same, is_in-head, is_in-tail, is_in-cases, is_in-nil}
+use Rattle.object_model.proofs.Members.{map-same, is_in-head, is_in-tail, is_in-cases, is_in-nil, filter_map-agree, not-in}
 use Rattle.object_view.proofs.MoveLaws.{moved_to, moved_to-here, moved_to-other}
 use Rattle.object_model.specs.Sets.{is_in}
 use Rattle.object_model.specs.ObjectWords.{words_at}
 use Rattle.heap_parts.specs.Places.{is_young, young_places, old_places, block_at}
 use Rattle.heap_parts.specs.OldSpace.{reserved_block, reserved_blocks, blocks_of}
-use Rattle.heap_parts.proofs.Members.{filter_map-agree}
 use Rattle.minor_collect.specs.Ending.{DoDiffer}
-use Rattle.minor_collect.proofs.SameMembers.{not-in}
 use Rattle.minor_collect.proofs.EndBlocks.{without_home}
 
 module _ (types : Table TypeInfo) (v w : ℕ → ℕ) (p a : ℕ) (young : is_young p ≡ true) (far : is_young a ≡ false) (size : words_at types v a ≡ words_at types w p) where

@@ -21,7 +21,8 @@ use Rattle.object_model.specs.Sets.{is_in}
 use Rattle.object_model.specs.ObjectWords.{updated, renamed, words_at, layout_at, info_at}
 use Rattle.object_model.specs.Holds.{HoldsObjects, IsPointer}
 use Rattle.object_view.specs.Moving.{moved, IsMoving}
-use Rattle.object_view.proofs.WordLaws.{updated-other, map-same, is_in-head, is_in-tail, is_in-cases, is_in-nil}
+use Rattle.object_view.proofs.WordLaws.{updated-other}
+use Rattle.object_model.proofs.Members.{map-same, is_in-head, is_in-tail, is_in-cases, is_in-nil, in-either, in-left, in-right, not-in}
 use Rattle.object_view.proofs.LayoutLaws.{laid_out, SameAt, KeepsLayout, keeps-same, info_at-same}
 use Rattle.object_view.proofs.CopyLaws.{copy-like, copy-info}
 use Rattle.object_view.proofs.MoveLaws.{moved_to, moved_to-here, moved_to-other, moved-cases, moved-there}
@@ -37,11 +38,10 @@ use Rattle.heap_parts.proofs.KeepWords.{firsts-stay}
 use Rattle.heap_parts.proofs.BirthNames.{AgreeOn, held_agrees, list_agrees, entries_agree, queues_agree, links_agree}
 use Rattle.heap_parts.proofs.Births.{rise-differ}
 use Rattle.heap_parts.proofs.PlaceLaws.{young-is_in, old-is_in, is_in-young, is_in-old}
-use Rattle.heap_parts.proofs.Members.{in-either, in-left, in-right}
 use Rattle.minor_collect.specs.Carried.{Moved, one_moved}
 use Rattle.minor_collect.specs.Midway.{Midway, Changing, with_changing, Owes, Follows}
 use Rattle.minor_collect.specs.Ending.{DoDiffer}
-use Rattle.minor_collect.proofs.SameMembers.{names_differ, not-in}
+use Rattle.minor_collect.proofs.SameMembers.{names_differ}
 use Rattle.minor_collect.proofs.EndStands.{given-by, gives-in, firsts-fewer}
 use Rattle.minor_collect.proofs.MoveStep.{CanMove, settled_words_at, step_objects, step_moving, step_rest, step_name, new_name, new_head, step_names, old_cases, young_cases, step_follows, old-after, here, young-p, unpinned-p, head_keeps}
 

@@ -11,7 +11,8 @@ use Rattle.object_model.specs.ObjectWords.{updated, words_at, layout_at, Covers}
 use Rattle.object_model.specs.Holds.{HoldsObjects, IsPointer}
 use Rattle.store_model.specs.MinorCollection.{is_unsettled, is_entry, refers_unsettled}
 use Rattle.object_view.specs.Moving.{moved, IsMoving, HasLeft, HasFreeRoom}
-use Rattle.object_view.proofs.WordLaws.{updated-here, updated-other, map-same, is_in-head, is_in-tail, is_in-cases}
+use Rattle.object_view.proofs.WordLaws.{updated-here, updated-other}
+use Rattle.object_model.proofs.Members.{map-same, is_in-head, is_in-tail, is_in-cases, false-in, not-in}
 use Rattle.object_view.proofs.LayoutLaws.{laid_out, SameAt, KeepsLayout, keeps-same}
 use Rattle.object_view.proofs.FrameLaws.{header_holds, keeps-header}
 use Rattle.object_view.proofs.ChangeLaws.{Changes}
@@ -26,7 +27,6 @@ use Rattle.minor_collect.specs.Traces.{Traces}
 use Rattle.minor_collect.specs.Entries.{has_remembered_referrer}
 use Rattle.minor_collect.specs.Midway.{Follows, Owes, IsDone, is_lasting}
 use Rattle.minor_collect.proofs.TraceLaws.{finds, member-here}
-use Rattle.minor_collect.proofs.SameMembers.{false-in, not-in}
 use Rattle.minor_collect.proofs.Begins.{not-lasting}
 
 -- what is asked of a move: room, an object that waits, a place outside the nursery, and a header of the same type

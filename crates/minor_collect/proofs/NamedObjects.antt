@@ -3,7 +3,7 @@ use Rattle.std.proofs.Common.{nat_eq, ◌≡◌, ℕ, ◌+◌, Bool, IsTrue, Lis
 use Rattle.std.proofs.lemmas.Bool.{cases_Bool}
 use Rattle.type_table.specs.declared.info.TypeInfo.{TypeInfo}
 use Rattle.type_table.specs.Table.{Table}
-use Rattle.object_view.proofs.WordLaws.{is_in-head, is_in-tail, is_in-cases, is_in-nil}
+use Rattle.object_model.proofs.Members.{is_in-head, is_in-tail, is_in-cases, is_in-nil}
 use Rattle.object_view.proofs.LayoutLaws.{birth-from}
 use Rattle.object_view.proofs.FoundLaws.{info-from}
 use Rattle.object_model.specs.Object.{Object}

@@ -6,7 +6,7 @@ use Rattle.type_table.specs.declared.info.TypeInfo.{TypeInfo}
 use Rattle.type_table.specs.Table.{Table}
 use Rattle.heap_space.specs.Places.{word_at}
 use Rattle.heap_space.specs.Extents.{Extent}
-use Rattle.object_view.proofs.WordLaws.{is_in-tail, is_in-cases}
+use Rattle.object_model.proofs.Members.{is_in-tail, is_in-cases, and_both, and_first, and_second, or_first, or_second}
 use Rattle.store_model.specs.Store.{Store}
 use Rattle.object_model.specs.Object.{object_at}
 use Rattle.object_model.specs.Sets.{is_in}
@@ -14,8 +14,6 @@ use Rattle.store_model.specs.Roots.{is_kept, referents_in}
 use Rattle.store_model.specs.Reach.{refers}
 use Rattle.store_model.specs.MinorCollection.{is_unsettled, is_entry, refers_unsettled}
 use Rattle.heap_parts.specs.Parts.{HeapParts, pinned_places}
-use Rattle.heap_parts.proofs.HeldLaws.{or-first, or-second}
-use Rattle.heap_parts.proofs.ReachLaws.{and_both, and_first, and_second}
 use Rattle.minor_collect.specs.Carried.{Moved}
 use Rattle.minor_collect.specs.Entries.{has_remembered_referrer}
 use Rattle.minor_collect.specs.Midway.{Midway, Changing, Owes, Follows}
@@ -83,10 +81,10 @@ module _ {types : Table TypeInfo} {store : Store} {remembered : ℕ → ℕ → 
     gone = f.gone;
     looked = λ q j t l b. elim (f.looked q j t l b) [
       | inl u ↦ elim (is_in-cases q p todo u) [
-        | inl e ↦ inr (inl (or-first (q == p) (owes.items q j) (eq-eqb q p e)))
+        | inl e ↦ inr (inl (or_first (q == p) (owes.items q j) (eq-eqb q p e)))
         | inr k ↦ inl k
       ]
-      | inr (inl o) ↦ inr (inl (or-second (q == p) (owes.items q j) o))
+      | inr (inl o) ↦ inr (inl (or_second (q == p) (owes.items q j) o))
       | inr (inr rest) ↦ inr (inr rest)
     ];
   }

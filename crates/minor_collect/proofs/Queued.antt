@@ -4,7 +4,7 @@ use Rattle.std.specs.Prelude.{◌&&◌, ◌==◌, slice_get}
 use Rattle.std.specs.List.{list_any}
 use Rattle.std.proofs.lemmas.Bool.{ne_eqb}
 use Rattle.heap_space.specs.Places.{word_at}
-use Rattle.object_view.proofs.WordLaws.{is_in-head, is_in-tail, is_in-nil, map-same}
+use Rattle.object_model.proofs.Members.{is_in-head, is_in-tail, is_in-nil, map-same, and_first, or_cases, or_first, or_second, is_in-named}
 use Rattle.object_view.proofs.FoundLaws.{found-at, ref-from}
 use Rattle.text_model.specs.declared.line.Phase.{Phase}
 use Rattle.text_model.specs.declared.line.Phase.TheVariants.{Scanning, Marking, Sweeping, Finalizing}
@@ -21,10 +21,8 @@ use Rattle.heap_parts.specs.Remembered.{Held, is_held_of, holds_item}
 use Rattle.heap_parts.specs.Parts.{HeapParts, word_in}
 use Rattle.heap_parts.specs.Places.{is_young, old_places, AreAmong}
 use Rattle.heap_parts.specs.StandsFor.{PartsStandButYoung}
-use Rattle.heap_parts.proofs.Births.{is_in-named}
-use Rattle.heap_parts.proofs.HeldLaws.{or-either, or-first, or-second}
 use Rattle.heap_parts.proofs.PlaceLaws.{old-is_in, is_in-old, named-by}
-use Rattle.heap_parts.proofs.ReachLaws.{and_first, equal}
+use Rattle.store_model.proofs.Rounds.{equal}
 use Rattle.minor_collect.specs.Carried.{Moved}
 use Rattle.minor_collect.specs.Midway.{Midway, Changing, Owes}
 use Rattle.minor_collect.specs.Gray.{ComesGray, IsQueuedFrom, QueuesWritten}
@@ -40,7 +38,7 @@ pub record HeldBy (name : ℕ → ℕ) (hs : List Held) (x : ℕ) : Type 0 where
 
 held-by : (card : ℕ) (name : ℕ → ℕ) (hs : List Held) (x i : ℕ) → IsTrue (list_any (λ (h : Held). name h.place == x && holds_item card h i) hs) → HeldBy name hs x
 held-by card name [] x i t = absurd (let no : ⊥ = cc in no)
-held-by card name (h ∷ hs) x i t = elim (or-either (name h.place == x && holds_item card h i) (list_any (λ (k : Held). name k.place == x && holds_item card k i) hs) t) [
+held-by card name (h ∷ hs) x i t = elim (or_cases (name h.place == x && holds_item card h i) (list_any (λ (k : Held). name k.place == x && holds_item card k i) hs) t) [
   | inl here ↦ record { place = h.place; there = is_in-head h.place (map (λ (k : Held). k.place) hs); is = equal (name h.place) x (and_first (name h.place == x) (holds_item card h i) here) }
   | inr more ↦ let rest = held-by card name hs x i more in record { place = rest.place; there = is_in-tail rest.place h.place (map (λ (k : Held). k.place) hs) rest.there; is = rest.is }
 ]
@@ -143,6 +141,6 @@ module _ {start : HeapParts} {store : Store} {now : Changing} {held : List ℕ} 
       let place = old-is_in mid.places n.place n.there in
       let same : to ≡ n.place = mid.words.objects.differ to n.place there place.0 (it.named ∙ n.is) in
       elim (c.all q i listed it.within it.some (ap is_young same ∙ place.1)) [
-        | inl g ↦ or-second (is_in y store.visited) (is_in y (map mid.name after)) (subst (λ (z : ℕ). IsTrue (is_in z (map mid.name after))) it.named (is_in-named mid.name to after g))
-        | inr v ↦ or-first (is_in y store.visited) (is_in y (map mid.name after)) (subst (λ (z : ℕ). IsTrue (is_in z store.visited)) it.named v)
+        | inl g ↦ or_second (is_in y store.visited) (is_in y (map mid.name after)) (subst (λ (z : ℕ). IsTrue (is_in z (map mid.name after))) it.named (is_in-named mid.name to after g))
+        | inr v ↦ or_first (is_in y store.visited) (is_in y (map mid.name after)) (subst (λ (z : ℕ). IsTrue (is_in z store.visited)) it.named v)
       ]

@@ -6,10 +6,9 @@ use Rattle.std.proofs.lemmas.Bool.{cases_Bool}
 use Rattle.std.proofs.lemmas.List.Sorted.{IsPermutation-refl}
 use Rattle.heap_space.specs.Places.{word_at}
 use Rattle.object_view.specs.Moving.{place_now}
-use Rattle.object_view.proofs.WordLaws.{is_in-head, is_in-tail, is_in-nil}
+use Rattle.object_model.proofs.Members.{is_in-head, is_in-tail, is_in-nil, filter-part}
 use Rattle.object_view.proofs.LayoutLaws.{weak-at}
 use Rattle.object_view.proofs.ForwardLaws.{place_now-stays, header-unmarked}
-use Rattle.object_view.proofs.SurvivorLaws.{filter-part}
 use Rattle.object_model.specs.Sets.{is_in}
 use Rattle.store_model.specs.Store.{Store, Struct}
 use Rattle.store_model.specs.Structs.{object_of}

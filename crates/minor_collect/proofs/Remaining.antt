@@ -8,7 +8,7 @@ use Rattle.type_table.specs.Table.{Table}
 use Rattle.heap_space.specs.Places.{word_at}
 use Rattle.heap_space.specs.Extents.{Extent}
 use Rattle.nursery_gaps.specs.Nursery.{Layout as NurseryLayout}
-use Rattle.object_view.proofs.WordLaws.{map-same, is_in-head, is_in-tail}
+use Rattle.object_model.proofs.Members.{map-same, is_in-head, is_in-tail}
 use Rattle.object_model.specs.Sets.{is_in}
 use Rattle.store_model.specs.Store.{Store}
 use Rattle.object_model.specs.ObjectWords.{words_at}
@@ -28,7 +28,7 @@ use Rattle.minor_collect.specs.Ending.{Completes, ended_parts, remaining}
 use Rattle.minor_collect.proofs.Ended.{OwesNone}
 use Rattle.minor_collect.proofs.EndOrder.{minor_queued}
 use Rattle.minor_collect.proofs.EndStands.{minor_stands, after-order, objects, old-stay, tells}
-use Rattle.minor_collect.proofs.EndCollected.{all_pinned}
+use Rattle.store_model.proofs.MinorSound.{all_pinned}
 
 -- homes of those alone that stay
 reserved-remaining : (types : Table TypeInfo) (w : ℕ → ℕ) (home : ℕ → Option ℕ) (name : ℕ → ℕ) (passes : ℕ → Bool) (ps : List ℕ)

@@ -6,10 +6,8 @@ use Rattle.std.specs.List.Sorted.{IsPermutation}
 use Rattle.std.proofs.lemmas.Bool.{cases_Bool}
 use Rattle.std.proofs.lemmas.Bool.Decides.{eqb_tells}
 use Rattle.std.proofs.lemmas.List.Sorted.{IsPermutation-refl, IsPermutation-cons, IsPermutation-middle, IsPermutation-trans, IsPermutation-sym}
-use Rattle.object_view.proofs.WordLaws.{is_in-head, is_in-tail, is_in-cases, is_in-nil}
+use Rattle.object_model.proofs.Members.{is_in-head, is_in-tail, is_in-cases, is_in-nil, in-either, in-left, in-right, false-in, not-in, is_in-named}
 use Rattle.object_model.specs.Sets.{is_in}
-use Rattle.heap_parts.proofs.Births.{is_in-named}
-use Rattle.heap_parts.proofs.Members.{in-either, in-left, in-right}
 use Rattle.minor_collect.specs.Ending.{DoDiffer}
 
 -- a list with x in it, taken apart
@@ -28,12 +26,6 @@ split-at x (y ∷ ys) t = elim (is_in-cases x y ys t) [
 nil-same : (ys : List ℕ) → ((y : ℕ) → IsTrue (is_in y ys) → IsTrue (is_in y [])) → ys ≡ []
 nil-same [] same = refl
 nil-same (y ∷ ys) same = absurd (is_in-nil y (same y (is_in-head y ys)))
-
-pub false-in : (x : ℕ) (xs : List ℕ) → (IsTrue (is_in x xs) → ⊥) → is_in x xs ≡ false
-false-in x xs none = elim (cases_Bool (is_in x xs)) [ inl t ↦ absurd (none t) | inr f ↦ f ]
-
-pub not-in : (x : ℕ) (xs : List ℕ) → is_in x xs ≡ false → IsTrue (is_in x xs) → ⊥
-not-in x xs e t = let no : ⊥ = cc in no
 
 -- the rest differs still, and x is not in it
 differ-drop : (x : ℕ) (fs ls : List ℕ) → DoDiffer (fs ++ x ∷ ls) → DoDiffer (fs ++ ls) × (is_in x (fs ++ ls) ≡ false)

@@ -5,7 +5,7 @@ use Rattle.std.specs.List.{list_any}
 use Rattle.std.proofs.lemmas.Bool.{cases_Bool}
 use Rattle.type_table.specs.declared.info.TypeInfo.{TypeInfo}
 use Rattle.type_table.specs.Table.{Table}
-use Rattle.object_view.proofs.WordLaws.{is_in-head, is_in-tail, is_in-cases, is_in-nil}
+use Rattle.object_model.proofs.Members.{is_in-head, is_in-tail, is_in-cases, is_in-nil, and_both, and_first, and_second, or_cases, or_first, or_second}
 use Rattle.object_view.proofs.LayoutLaws.{birth-from}
 use Rattle.object_view.proofs.FoundLaws.{found-at}
 use Rattle.object_model.specs.Object.{Object, referents, object_at}
@@ -18,10 +18,8 @@ use Rattle.object_model.specs.Holds.{HoldsObjects}
 use Rattle.store_model.specs.Reach.{Tells, is_root, is_registered}
 use Rattle.store_model.specs.MarkingOrder.{IsItem, YoungHeld}
 use Rattle.store_model.specs.MinorCollection.{is_unsettled, is_entry, has_settled_referrer, SurvivesBy, Survives}
-use Rattle.heap_parts.proofs.HeldLaws.{or-either, or-first, or-second}
-use Rattle.heap_parts.proofs.ReachLaws.{and_both, and_first, and_second}
 use Rattle.minor_collect.specs.Entries.{referents_where, has_remembered_referrer}
-use Rattle.minor_collect.proofs.Survives.{referrer-found}
+use Rattle.store_model.proofs.Survives.{referrer-found}
 
 -- a referent is in some item
 pub record InItem (refs : List (Option ℕ)) (y : ℕ) : Type 0 where
@@ -73,7 +71,7 @@ one-later f x xs o = record { one = o.one; there = is_in-tail o.one x xs o.there
 
 one-of : (f : ℕ → Bool) (xs : List ℕ) → IsTrue (list_any f xs) → OneOf f xs
 one-of f [] t = absurd (let no : ⊥ = cc in no)
-one-of f (x ∷ xs) t = elim (or-either (f x) (list_any f xs) t) [
+one-of f (x ∷ xs) t = elim (or_cases (f x) (list_any f xs) t) [
   | inl here ↦ record { one = x; there = is_in-head x xs; holds = here }
   | inr more ↦ one-later f x xs (one-of f xs more)
 ]
@@ -81,13 +79,13 @@ one-of f (x ∷ xs) t = elim (or-either (f x) (list_any f xs) t) [
 any-of : (f : ℕ → Bool) (xs : List ℕ) (x : ℕ) → IsTrue (is_in x xs) → IsTrue (f x) → IsTrue (list_any f xs)
 any-of f [] x t h = absurd (is_in-nil x t)
 any-of f (y ∷ xs) x t h = elim (is_in-cases x y xs t) [
-  | inl e ↦ or-first (f y) (list_any f xs) (subst (λ (k : ℕ). IsTrue (f k)) e h)
-  | inr u ↦ or-second (f y) (list_any f xs) (any-of f xs x u h)
+  | inl e ↦ or_first (f y) (list_any f xs) (subst (λ (k : ℕ). IsTrue (f k)) e h)
+  | inr u ↦ or_second (f y) (list_any f xs) (any-of f xs x u h)
 ]
 
 read-any : (f : Object → Bool) (read : ℕ → Object) (ps : List ℕ) → IsTrue (list_any f (map read ps)) → OneOf (λ p. f (read p)) ps
 read-any f read [] t = absurd (let no : ⊥ = cc in no)
-read-any f read (p ∷ ps) t = elim (or-either (f (read p)) (list_any f (map read ps)) t) [
+read-any f read (p ∷ ps) t = elim (or_cases (f (read p)) (list_any f (map read ps)) t) [
   | inl here ↦ record { one = p; there = is_in-head p ps; holds = here }
   | inr more ↦ one-later (λ q. f (read q)) p ps (read-any f read ps more)
 ]

@@ -11,7 +11,8 @@ use Rattle.object_model.specs.Sets.{is_in}
 use Rattle.object_model.specs.ObjectWords.{updated, words_at, Covers}
 use Rattle.object_model.specs.Holds.{HoldsObjects}
 use Rattle.object_view.specs.Moving.{moved, IsMoving, HasLeft}
-use Rattle.object_view.proofs.WordLaws.{updated-other, is_in-cases}
+use Rattle.object_view.proofs.WordLaws.{updated-other}
+use Rattle.object_model.proofs.Members.{is_in-cases}
 use Rattle.object_view.proofs.LayoutLaws.{laid_out, keeps-same}
 use Rattle.object_view.proofs.CopyLaws.{copy-like}
 use Rattle.object_view.proofs.ForwardLaws.{header-unmarked}

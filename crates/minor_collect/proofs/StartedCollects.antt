@@ -4,7 +4,7 @@ use Rattle.type_table.specs.declared.info.TypeInfo.{TypeInfo}
 use Rattle.type_table.specs.Table.{Table}
 use Rattle.old_space.specs.declared.Old.{Old}
 use Rattle.std.proofs.lemmas.List.Sorted.{IsPermutation-refl}
-use Rattle.object_view.proofs.WordLaws.{is_in-nil}
+use Rattle.object_model.proofs.Members.{is_in-nil}
 use Rattle.text_model.specs.declared.line.Line.TheVariants.{MinorDone}
 use Rattle.object_model.specs.declared.settings.Settings.{Settings}
 use Rattle.object_model.specs.Sets.{is_in}

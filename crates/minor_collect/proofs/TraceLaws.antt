@@ -1,10 +1,9 @@
 -- A collection by births: what each move makes of what was found and what is left.
 use Rattle.std.proofs.Common.{◌≡◌, ◌≢◌, ℕ, ◌⊎◌, Bool, false, IsTrue, List, [], ◌∷◌, ◌++◌, sym, subst, inl, inr}
-use Rattle.object_view.proofs.WordLaws.{is_in-head, is_in-tail, is_in-cases}
+use Rattle.object_model.proofs.Members.{is_in-head, is_in-tail, is_in-cases, in-either, in-left, in-right}
 use Rattle.object_model.specs.Sets.{is_in}
 use Rattle.store_model.specs.Reach.{Leads, LeadsTo, Tells}
-use Rattle.heap_parts.proofs.ReachLaws.{LeadsTo-start, LeadsTo-step}
-use Rattle.heap_parts.proofs.Members.{in-either, in-left, in-right}
+use Rattle.store_model.proofs.Rounds.{LeadsTo-start, LeadsTo-step}
 use Rattle.minor_collect.specs.Traces.{Traces}
 
 -- entries are young, and so is what a step leads to

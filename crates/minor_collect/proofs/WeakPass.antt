@@ -11,9 +11,8 @@ use Rattle.type_table.specs.declared.info.Shape.TheVariants.{Fixed, IntArray, Re
 use Rattle.type_table.specs.Table.{Table}
 use Rattle.heap_space.specs.Places.{word_at}
 use Rattle.object_view.specs.Moving.{place_now}
-use Rattle.object_view.proofs.WordLaws.{is_in-head, is_in-tail}
+use Rattle.object_model.proofs.Members.{is_in-head, is_in-tail, filter-part, filter-member, filter-agree}
 use Rattle.object_view.proofs.LayoutLaws.{laid_out, weak-at, SameAt, info_at-same}
-use Rattle.object_view.proofs.SurvivorLaws.{filter-part, filter-member}
 use Rattle.object_model.specs.Sets.{is_in}
 use Rattle.object_model.specs.Shapes.{is_weak_shape}
 use Rattle.store_model.specs.Store.{Store}
@@ -23,7 +22,6 @@ use Rattle.store_model.specs.MinorCollection.{vanishes, left_target}
 use Rattle.heap_parts.specs.Parts.{HeapParts, pinned_places}
 use Rattle.heap_parts.specs.Places.{is_weak_at}
 use Rattle.heap_parts.proofs.Births.{rise-differ}
-use Rattle.heap_parts.proofs.Members.{filter-agree}
 use Rattle.heap_parts.proofs.PlaceLaws.{named-by}
 use Rattle.minor_collect.specs.Carried.{Moved, weak_births, births_read}
 use Rattle.minor_collect.specs.Midway.{Midway, Changing, Owes, is_lasting}
@@ -32,10 +30,9 @@ use Rattle.minor_collect.specs.Lines.{is_gone_pointer, ClearsWeaks}
 use Rattle.minor_collect.proofs.Ended.{OwesNone, stays_lasting, remains}
 use Rattle.minor_collect.proofs.EndBirths.{rise_part}
 use Rattle.minor_collect.proofs.EndObjects.{cleared-keeps}
-use Rattle.minor_collect.proofs.NamedObjects.{weak_named}
+use Rattle.minor_collect.proofs.NamedObjects.{weak_named, eq-flips}
 use Rattle.minor_collect.proofs.SameMembers.{same_members, names_differ, part_differs}
 use Rattle.minor_collect.proofs.Weaks.{now_place, weak_was, weak_now, pointer_gone}
-use Rattle.minor_collect.proofs.NamedObjects.{eq-flips}
 
 pub weak-shape : (k : Shape) → is_weak_shape k ≡ true → k ≡ Weak
 weak-shape (Fixed i r) u = absurd (let no : ⊥ = cc in no)

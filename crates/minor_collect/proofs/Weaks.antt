@@ -8,7 +8,7 @@ use Rattle.type_table.specs.declared.info.TypeInfo.{TypeInfo}
 use Rattle.type_table.specs.Table.{Table}
 use Rattle.object_view.specs.Moving.{IsMoving, place_now}
 use Rattle.object_view.proofs.ForwardLaws.{header-unmarked, place_now-moved, place_now-stays}
-use Rattle.object_view.proofs.SurvivorLaws.{filter-part, filter-member}
+use Rattle.object_model.proofs.Members.{filter-part, filter-member, is_in-named}
 use Rattle.object_model.specs.Object.{Object}
 use Rattle.object_model.specs.Sets.{is_in}
 use Rattle.store_model.specs.Store.{Store}
@@ -16,7 +16,6 @@ use Rattle.object_model.specs.Holds.{HoldsObjects}
 use Rattle.store_model.specs.MinorCollection.{vanishes}
 use Rattle.heap_parts.specs.Parts.{HeapParts}
 use Rattle.heap_parts.specs.Places.{is_weak_at}
-use Rattle.heap_parts.proofs.Births.{is_in-named}
 use Rattle.heap_parts.proofs.PlaceLaws.{named-by}
 use Rattle.minor_collect.specs.Carried.{Carried, births_read, weak_births}
 use Rattle.minor_collect.specs.Midway.{Follows, Owes, is_lasting}

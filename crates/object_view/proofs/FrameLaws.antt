@@ -12,7 +12,8 @@ use Rattle.object_model.specs.Holds.{HoldsObjects, IsPointer}
 use Rattle.object_header.specs.declared.flags.Flag.{Flag}
 use Rattle.object_header.specs.Words.{with_flag, without_flag}
 use Rattle.object_header.proofs.WordLaws.{type_of-with_flag, type_of-without_flag, IsHeader-with_flag, IsHeader-without_flag}
-use Rattle.object_view.proofs.WordLaws.{updated-here, updated-other, map-same, words_from-same}
+use Rattle.object_view.proofs.WordLaws.{updated-here, updated-other, words_from-same}
+use Rattle.object_model.proofs.Members.{map-same}
 use Rattle.object_view.proofs.LayoutLaws.{laid_out, SameAt, KeepsLayout, keeps-same, layout_at-same, object_from-same, object_from-is, object_from-of}
 use Rattle.object_view.proofs.ChangeLaws.{covers-kept}
 

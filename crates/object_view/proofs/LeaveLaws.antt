@@ -13,7 +13,8 @@ use Rattle.object_model.specs.Sets.{is_in}
 use Rattle.object_model.specs.ObjectWords.{updated, renamed, words_at, Covers}
 use Rattle.object_model.specs.Holds.{HoldsObjects, IsPointer}
 use Rattle.object_view.specs.Moving.{copied, moved, HasFreeRoom}
-use Rattle.object_view.proofs.WordLaws.{updated-here, updated-other, is_in-tail}
+use Rattle.object_view.proofs.WordLaws.{updated-here, updated-other}
+use Rattle.object_model.proofs.Members.{is_in-tail}
 use Rattle.object_view.proofs.LayoutLaws.{laid_out}
 use Rattle.object_view.proofs.SpaceLaws.{word_at-written, lies-at}
 use Rattle.object_view.proofs.MoveLaws.{Moves, move_holds, moved_to}

@@ -17,7 +17,8 @@ use Rattle.object_model.specs.Holds.{HoldsObjects, IsPointer}
 use Rattle.heap_space.specs.Places.{Placed, word_at, with_run, lies_in_one}
 use Rattle.heap_space.proofs.Blocks.{lies-each, word_at-in_run, word_at-before_run, word_at-after_run}
 use Rattle.object_view.specs.Births.{born_words}
-use Rattle.object_view.proofs.WordLaws.{updated-here, updated-other, words_from-zeros, is_in-before}
+use Rattle.object_view.proofs.WordLaws.{updated-here, updated-other, words_from-zeros}
+use Rattle.object_model.proofs.Members.{is_in-before}
 use Rattle.object_view.proofs.LayoutLaws.{laid_out, SameAt}
 use Rattle.object_view.proofs.InitLaws.{two-words}
 use Rattle.object_view.proofs.BirthLaws.{Adds, added_holds}

@@ -19,7 +19,8 @@ use Rattle.store_model.specs.MinorCollection.{MinorCollection, is_entry, is_unse
 use Rattle.store_model.specs.Marking.{StartOfMarking, MarkingStep, EndOfMarking, CanVisit, IsMarked, IsSaved, IsChosen, GoesOn, visited_words, is_dying, is_white, stands_before, with_visited}
 use Rattle.store_model.specs.Sweeping.{SweepingStep, CanBe, husks_where, after_sweep}
 use Rattle.store_model.specs.Collections.{When, MajorStep, StepFrom, Block, Cycle, Last, More, TwoCycles, Collect as Collects, CollectFrom, MakesRoom, always, is_scanning, is_step_due, needs_block, exceeds_limit}
-use Rattle.store_model.proofs.Rounds.{and_first, and_second, and_both, equal, open_or_in, list_all-is_in, list_all-each, is_in-filter, spread, closure, led_tells, kept-births, tells_revived}
+use Rattle.store_model.proofs.Rounds.{equal, open_or_in, list_all-is_in, list_all-each, is_in-filter, spread, closure, led_tells, kept-births, tells_revived}
+use Rattle.object_model.proofs.Members.{and_first, and_second, and_both}
 use Rattle.store_model.proofs.Computed.{At, Old, Visits, Frees, Out, Choice, Outcome, ok_of, lines_in, store_in, left_in, only_if, behind, Event, then_from, when, births_of, rounds, led, with_list, survivors, minor_by, minor_of, reached_from, start_by, start_of, distinct, can_visit, has_visited, is_marked, saved_in, reaches, gives_way, chosen_in, chosen_of, end_by, end_of, go_on, mark_of, is_empty, swept_phase, may_be, sweep_to, step_from, step_of, due_step, block_of, go_round, cycle_of, collect_from, collect_of, due_collect, room_of}
 use Rattle.store_model.proofs.Strict as strict
 

@@ -22,7 +22,8 @@ use Rattle.store_model.specs.Births.{BirthWithRoom, BirthWithRoomOf, fixed_reque
 use Rattle.store_model.specs.Identity.{MayTell, TellsHome, TellsPlace, home_places, hash_of, is_settled_in}
 use Rattle.store_model.specs.PlainCommands.{Revives, IsRevived, without_revived, target_at, raise_struct, forced_anew, linked_object}
 use Rattle.store_model.specs.Steps.{Does}
-use Rattle.store_model.proofs.Rounds.{and_first, and_second, tells_revived}
+use Rattle.store_model.proofs.Rounds.{tells_revived}
+use Rattle.object_model.proofs.Members.{and_first, and_second}
 use Rattle.store_model.specs.Roots.{is_kept}
 use Rattle.store_model.specs.Reach.{refers}
 use Rattle.store_model.proofs.Computed.{At, Old, Visits, Frees, Choice, Outcome, ok_of, lines_in, store_in, left_in, births_of, led, room_of, born_gapped, born_small, born_by, birth_within, birth_of, revive, tell_home, tell_held, tell_slot, place_of, count_from, outcome}

@@ -1,6 +1,14 @@
 -- Lines that are refused, one for each reason.
-use Rattle.std.specs.Prelude.{[], ◌∷◌, refl}
-use Rattle.text_model.specs.declared.item.Reason.TheVariants.{NoType, NoRoot, WrongShape, NoItem, Range, Syntax, Late, SetTwice, SetRange, TypeTwice, NotPinned, NoQueue, Registered, StructUsed, HasPLink, NoStruct, StructPending, CountFull, CountZero}
+use Rattle.std.proofs.Common.{◌≡◌, ℕ, ◌≤◌, true, false, Some, None, [], ◌∷◌, refl, arith, length}
+use Rattle.std.specs.Prelude.{nat_le, codes, Err}
+use Rattle.std.proofs.lemmas.Bool.Decides.{nat_tests}
+use Rattle.type_table.specs.declared.info.TypeInfo.{TypeInfo}
+use Rattle.type_table.specs.Table.{value_at}
+use Rattle.text_model.specs.declared.item.Item.TheVariants.{TypeDef}
+use Rattle.text_model.specs.Script.{reading}
+use Rattle.store_model.specs.Progress.{Progress}
+use Rattle.store_model.specs.Refusal.{refusal, refusal_seen}
+use Rattle.text_model.specs.declared.item.Reason.TheVariants.{NoType, NoRoot, WrongShape, NoItem, Range, Syntax, Late, SetTwice, SetRange, TypeTwice, NotPinned, NoQueue, Registered, StructUsed, HasPLink, NoStruct, StructPending, CountFull, CountZero, LineTooLong, TooManyLines, TooManyTypes}
 use Rattle.store_model.proofs.Rows.{Refuses, refuses, computes}
 
 refused01 : Refuses [] "new 0 1" [] NoType
@@ -86,3 +94,17 @@ refused20 = refuses [] refl refl
 refused21 : Refuses [] "drop  0" [] Syntax
 unfolding computes
 refused21 = refuses [] refl refl
+
+refused22 : Refuses [] "xxxxxxxxxxxxxxxxxxxxxxxxxxxxxxxxxxxxxxxxxxxxxxxxxxxxxxxxxxxxxxxxxxxxxxxxxxxxxxxxxxxxxxxxxxxxxxxxxxxxxxxxxxxxxxxxxxxxxxxxxxxxxxxxxxxxxxxxxxxxxxxxxxxxxxxxxxxxxxxxxxxxxxxxxxxxxxxxxxxxxxxxxxxxxxxxxxxxxxxxx" [] LineTooLong
+unfolding computes
+refused22 = refuses [] refl refl
+
+refused23 : reading 16000001 (codes "used") ≡ Err TooManyLines
+unfolding computes
+refused23 = refl
+
+-- wherever 4,096 types are known before the first command, one more is refused
+too_many_types : (at : Progress) (id : ℕ) (info : TypeInfo) → at.late ≡ false → value_at at.setup.types id ≡ None → 4096 ≤ length at.setup.types
+    → refusal at (TypeDef id info) ≡ Some TooManyTypes
+unfolding refusal_seen
+too_many_types at id info early new many = let full : nat_le 4096 (length at.setup.types) ≡ true = grind (arith, nat_tests) in rw (early, new, full) refl

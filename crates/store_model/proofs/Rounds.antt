@@ -10,30 +10,7 @@ use Rattle.object_model.specs.Object.{Object, object_at}
 use Rattle.store_model.specs.Roots.{is_kept, referents_in}
 use Rattle.store_model.specs.Reach.{Tells, Leads, LeadsTo, refers}
 use Rattle.store_model.specs.PlainCommands.{IsRevived}
-
-pub and_first : (a b : Bool) → IsTrue (a && b) → IsTrue a
-and_first true b h = refl
-and_first false b h = h
-
-pub and_second : (a b : Bool) → IsTrue (a && b) → IsTrue b
-and_second true b h = h
-and_second false b h = absurd (grind arith)
-
-pub and_both : (a b : Bool) → IsTrue a → IsTrue b → IsTrue (a && b)
-and_both true b p q = q
-and_both false b p q = p
-
-pub or_cases : (a b : Bool) → IsTrue (a || b) → IsTrue a ⊎ IsTrue b
-or_cases true b h = inl refl
-or_cases false b h = inr h
-
-pub or_first : (a b : Bool) → IsTrue a → IsTrue (a || b)
-or_first true b h = refl
-or_first false b h = absurd (grind arith)
-
-pub or_second : (a b : Bool) → IsTrue b → IsTrue (a || b)
-or_second true b h = refl
-or_second false b h = h
+use Rattle.object_model.proofs.Members.{and_first, and_second, and_both, or_cases, or_first, or_second}
 
 pub decide : (b : Bool) → IsTrue b ⊎ IsTrue (not b)
 decide true = inl refl

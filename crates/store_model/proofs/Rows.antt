@@ -23,7 +23,7 @@ use Rattle.text_model.specs.CommandGrammar.{new_form, link_form, copy_form, stru
 use Rattle.text_model.specs.Grammar.{setting_of, setting_form, shape_words, type_form, form_of, item_of}
 use Rattle.text_model.specs.Script.{reading, readings}
 use Rattle.store_model.specs.EndOfRun.{IsDone, ExceedsLimit}
-use Rattle.store_model.proofs.Rounds.{and_first, and_second}
+use Rattle.object_model.proofs.Members.{and_first, and_second}
 use Rattle.store_model.proofs.Computed.{Choice, Outcome, Out, ok_of, lines_in, store_in, left_in, outcome, room_of, is_empty}
 use Rattle.store_model.proofs.Strict as strict
 use Rattle.store_model.proofs.Allowed.{lt_of, room-means}

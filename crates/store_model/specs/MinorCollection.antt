@@ -1,5 +1,5 @@
 -- A minor collection: which unsettled objects survive, the lines, and the store that it leaves.
-use Rattle.std.specs.Prelude.{◌≡◌, ℕ, Bool, false, not, ◌&&◌, ◌||◌, List, ◌∷◌, ◌++◌, Option, Some, None, map, filter, length, if◌then◌else◌, nat_lt}
+use Rattle.std.specs.Prelude.{◌≡◌, ℕ, Bool, false, IsTrue, IsFalse, not, ◌&&◌, ◌||◌, List, ◌∷◌, ◌++◌, Option, Some, None, map, filter, length, if◌then◌else◌, nat_lt}
 use Rattle.std.specs.List.{list_any}
 use Rattle.type_table.specs.Table.{entries_where}
 use Rattle.text_model.specs.declared.line.Line.{Line}
@@ -96,6 +96,10 @@ after_minor store survives = record (without_vanished store (vanishes store surv
   fresh = 0;
   gapped = nat_lt 0 (length store.pinned);
 }
+
+-- each unsettled object is pinned, as right after a minor collection
+abbrev pub AreAllPinned : Store → Type 0
+AreAllPinned store = (x : ℕ) → IsTrue (is_kept store.kept x) → IsFalse (is_in x store.settled) → IsTrue (is_in x (pinned_births store))
 
 -- the lines and the new store, by a test that tells which unsettled objects survive
 pub record MinorCollection (old : Store) (lines : List Line) (new : Store) : Type 0 where

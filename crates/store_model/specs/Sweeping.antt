@@ -18,10 +18,16 @@ husks_where husks test = filter (λ husk. test husk.0) husks
 abbrev pub is_freed : Store → (ℕ → Bool) → ℕ → Bool
 is_freed store freed x = freed x && is_in x (map (λ husk. husk.0) store.husks)
 
-abbrev pub after_sweep : Store → (ℕ → Bool) → Phase → Store
-after_sweep store freed phase = record store {
+-- the store without the husks that the test frees, and without their homes
+abbrev pub without_husks : Store → (ℕ → Bool) → Store
+without_husks store freed = record store {
   husks = husks_where store.husks (λ x. not (freed x));
   homes = entries_where (λ x. not (is_freed store freed x)) store.homes;
+}
+
+-- the store after a step of sweeping that ends in this phase
+abbrev pub after_sweep : Store → (ℕ → Bool) → Phase → Store
+after_sweep store freed phase = record (without_husks store freed) {
   phase = phase;
   left = store.left - 1;
 }

@@ -1,0 +1,94 @@
+-- What leads to objects changes: pins, slots, structures.
+use Rattle.std.proofs.Common.{◌≡◌, ℕ, IsTrue, List, map, refl, Option, Some, inl, inr}
+use Rattle.std.specs.Prelude.{slice_set, option_and_then}
+use Rattle.object_model.specs.declared.settings.Settings.{Settings}
+use Rattle.store_model.specs.Store.{Store, Struct}
+use Rattle.object_model.specs.Sets.{is_in}
+use Rattle.store_model.specs.Sound.{IsSound, ArePinsSound}
+use Rattle.store_model.specs.Roots.{roots_of}
+use Rattle.store_model.proofs.SoundLaws.{CanBeRoot}
+use Rattle.store_model.proofs.RootLaws.{relieves_none, can_root, RootChange, roots_each, are_roots, Relieves, can_relieved, set-in, not-in}
+use Rattle.type_table.specs.Table.{Table}
+use Rattle.store_model.specs.Structs.{forced_object}
+use Rattle.store_model.proofs.StructLaws.{PutsAt, links_put, forced-put}
+
+-- The pins of a store change: each pinned object was pinned or is a root.
+pub pins_change : (settings : Settings) (store : Store) (pinned : List (ℕ × ℕ)) → IsSound settings store → ArePinsSound settings.pins store.kept store.settled pinned
+    → ((x : ℕ) → IsTrue (is_in x (map (λ entry. entry.0) pinned)) → IsTrue (is_in x (roots_of store)))
+    → RootChange settings store (record store { pinned = pinned })
+pins_change settings store pinned s sound rooted =
+    let new : Store = record store { pinned = pinned } in
+    let was = are_roots store in
+    let old : (x : ℕ) → IsTrue (is_in x (roots_of store)) → CanBeRoot store.kept store.unreached store.doomed x = λ x t. can_root s x t in
+    record {
+      only = refl;
+      relieves = relieves_none store.kept store.unreached store.doomed;
+      roots = λ x t. roots_each {store = new} {P = CanBeRoot store.kept store.unreached store.doomed} (record {
+        slot = λ y u. old y (was.slot y u);
+        pin = λ y u. old y (rooted y u);
+        choice = λ y u. old y (was.choice y u);
+        queue = λ y u. old y (was.queue y u);
+        force = λ y u. old y (was.force y u);
+      }) x t;
+      registered = λ x t. (s.registered x t, s.registered_retained x t);
+      pins = sound;
+      queues_rise = s.queues_rise;
+      once = s.once;
+      waiting = s.waiting;
+      links = s.links;
+    }
+
+-- A slot changes, and what it leads to then may be a root.
+pub slot_change : {settings : Settings} {store : Store} (root : ℕ) (birth : Option ℕ) (unreached doomed : List ℕ) → IsSound settings store
+    → Relieves store.kept store.unreached store.doomed unreached doomed
+    → ((y : ℕ) → birth ≡ Some y → CanBeRoot store.kept unreached doomed y)
+    → RootChange settings store (record store { slots = slice_set store.slots root birth; unreached = unreached; doomed = doomed })
+slot_change {settings = settings} {store = store} root birth unreached doomed s r can =
+    let after : Store = record store { slots = slice_set store.slots root birth; unreached = unreached; doomed = doomed } in
+    let was = are_roots store in
+    let old : (x : ℕ) → IsTrue (is_in x (roots_of store)) → CanBeRoot store.kept unreached doomed x = λ x t. can_relieved r x (can_root s x t) in
+    record {
+      only = refl;
+      relieves = r;
+      roots = λ x t. roots_each {store = after} {P = CanBeRoot store.kept unreached doomed} (record {
+        slot = λ y u. elim (set-in store.slots root birth y u) [ inl e ↦ can y e | inr v ↦ old y (was.slot y v) ];
+        pin = λ y u. old y (was.pin y u);
+        choice = λ y u. old y (was.choice y u);
+        queue = λ y u. old y (was.queue y u);
+        force = λ y u. old y (was.force y u);
+      }) x t;
+      registered = λ x t. (s.registered x t, (let fewer = r.doomed_less in not-in doomed store.doomed x fewer (s.registered_retained x t)));
+      pins = s.pins;
+      queues_rise = s.queues_rise;
+      once = s.once;
+      waiting = s.waiting;
+      links = s.links;
+    }
+
+-- A structure changes, and what it keeps may be a root.
+pub struct_change : {settings : Settings} {store : Store} {after : Table Struct} {left : List ℕ} {number : ℕ} {found : Option Struct} (unreached doomed : List ℕ)
+    → IsSound settings store → PutsAt store.kept store.structs store.dead after left number found
+    → Relieves store.kept store.unreached store.doomed unreached doomed
+    → ((x : ℕ) → option_and_then forced_object found ≡ Some x → CanBeRoot store.kept unreached doomed x)
+    → RootChange settings store (record store { structs = after; dead = left; unreached = unreached; doomed = doomed })
+struct_change {settings = settings} {store = store} {after = after} {left = left} unreached doomed s p r can =
+    let new : Store = record store { structs = after; dead = left; unreached = unreached; doomed = doomed } in
+    let was = are_roots store in
+    let old : (x : ℕ) → IsTrue (is_in x (roots_of store)) → CanBeRoot store.kept unreached doomed x = λ x t. can_relieved r x (can_root s x t) in
+    record {
+      only = refl;
+      relieves = r;
+      roots = λ x t. roots_each {store = new} {P = CanBeRoot store.kept unreached doomed} (record {
+        slot = λ y u. old y (was.slot y u);
+        pin = λ y u. old y (was.pin y u);
+        choice = λ y u. old y (was.choice y u);
+        queue = λ y u. old y (was.queue y u);
+        force = λ y u. elim (forced-put p y u) [ inl e ↦ can y e | inr v ↦ old y (was.force y v) ];
+      }) x t;
+      registered = λ x t. (s.registered x t, not-in doomed store.doomed x r.doomed_less (s.registered_retained x t));
+      pins = s.pins;
+      queues_rise = s.queues_rise;
+      once = s.once;
+      waiting = s.waiting;
+      links = links_put p s.links;
+    }
