@@ -1,5 +1,5 @@
 -- Which births the finalizers know.
-use Rattle.std.specs.Prelude.{◌≡◌, ℕ, ◌+◌, ◌==◌, Bool, List, count_by, if◌then◌else◌}
+use Rattle.std.specs.Prelude.{◌≡◌, ℕ, ◌+◌, ◌==◌, Bool, List, ◌++◌, count_by, if◌then◌else◌}
 use Rattle.type_table.specs.Table.{Table}
 use Rattle.object_model.specs.Sets.{is_in}
 use Rattle.finalizer_order.specs.declared.entry.Entry.{Entry}
@@ -13,3 +13,7 @@ times_of birth entries = count_by (λ entry. entry.birth == birth) entries
 abbrev pub HasBirths : List ℕ → List Entry → List Entry → Table (List Entry) → Type 0
 HasBirths births registered chosen queues =
     (birth : ℕ) → times_of birth registered + (times_of birth chosen + times_of birth (queued_entries queues)) ≡ (if is_in birth births then 1 else 0)
+
+-- a list goes on behind what it held
+abbrev pub BeginsWith : {X : Type 0} → List X → List X → Type 0
+BeginsWith {X} before after = (more : List X) × (after ≡ before ++ more)

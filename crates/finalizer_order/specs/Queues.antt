@@ -1,5 +1,6 @@
 -- Finalizer queues: first in, first out.
-use Rattle.std.specs.Prelude.{ℕ, ◌+◌, List, [], ◌∷◌, ◌++◌, Option, None, Some, unwrap_or, option_map}
+use Rattle.std.specs.Prelude.{ℕ, ◌+◌, ◌<◌, List, [], ◌∷◌, ◌++◌, Option, None, Some, unwrap_or, option_map, length, slice_set, slice_index_or, flat_map}
+use Rattle.std.specs.List.{All}
 use Rattle.type_table.specs.Table.{Table, value_at, with_value, without_key}
 use Rattle.finalizer_order.specs.declared.entry.Entry.{Entry}
 use Rattle.finalizer_order.specs.Finalizers.{Finalizers}
@@ -36,3 +37,17 @@ abbrev pub tabled : ℕ → List (List Entry) → Table (List Entry)
 tabled number [] = []
 tabled number ([] ∷ queues) = tabled (number + 1) queues
 tabled number ((entry ∷ entries) ∷ queues) = (number, entry ∷ entries) ∷ tabled (number + 1) queues
+
+-- each object has a queue
+abbrev pub InRange : List (List Entry) → List Entry → Type 0
+InRange queues entries = All (λ entry. entry.queue < length queues) entries
+
+-- queues that lie side by side, after these objects entered theirs, in order
+abbrev pub push_all : List (List Entry) → List Entry → List (List Entry)
+push_all queues [] = queues
+push_all queues (entry ∷ entries) =
+    push_all (slice_set queues entry.queue (slice_index_or queues entry.queue [] ++ entry ∷ [])) entries
+
+-- all that waits, by rising queue
+abbrev pub joined : List (List Entry) → List Entry
+joined queues = flat_map (λ entries. entries) queues

@@ -1,8 +1,11 @@
-//! A finalizer queue.
+//! Finalizer queues.
 
-ghost use Rattle.std.specs.Prelude.{◌≡◌, [], ◌∷◌, ◌++◌, OnOk, OnErr, drop, slice_get};
+ghost use Rattle.std.specs.Prelude.{◌≡◌, [], ◌∷◌, ◌++◌, IfOk, OnOk, OnErr, drop, slice_get, replicate};
+ghost use Rattle.finalizer_order.specs.Finalizers.{places_of, placed};
+ghost use Rattle.finalizer_order.specs.Queues.{InRange, push_all, joined};
+ghost use Rattle.finalizer_order.specs.Listed.{BeginsWith};
 
-use crate::entry::Entry;
+use crate::entry::{Entry, append_places};
 use std::alloc::{AllocError, Global};
 use std::collections::VecDeque;
 use std::marker::Model;
@@ -24,7 +27,7 @@ impl Model for Queue {
 
 impl Queue {
     /// An empty queue.
-    pub(crate) fn new(alloc: Global) -> Queue
+    fn new(alloc: Global) -> Queue
         ensures { result ≡ [] }
     {
         Queue {
@@ -33,7 +36,7 @@ impl Queue {
     }
 
     /// Lets an object wait behind all others. Without memory nothing changes.
-    pub(crate) fn push(&mut self, entry: Entry) -> Result<(), AllocError>
+    fn push(&mut self, entry: Entry) -> Result<(), AllocError>
         ensures ok { OnOk result (self.new ≡ self.old ++ entry ∷ []) }
         ensures err { OnErr result (self.new ≡ self.old) }
     {
@@ -48,4 +51,57 @@ impl Queue {
     {
         self.entries.pop_front()
     }
+
+    /// Appends the places of the objects that wait. Without memory nothing is appended, or some are.
+    fn append(&self, places: &mut Vec<u64>) -> Result<(), AllocError>
+        ensures ok { OnOk result (places.new.items ≡ places.old.items ++ places_of self.now) }
+        ensures err { OnErr result (BeginsWith places.old.items places.new.items) }
+    {
+        for entry in self.entries.iter() {
+            places.push(entry.place)?;
+        }
+        Ok(())
+    }
+}
+
+/// So many empty queues.
+pub(crate) fn empty_queues(alloc: Global, count: usize) -> Result<Vec<Queue>, AllocError>
+    ensures { IfOk result (λ queues. queues.items ≡ replicate count []) }
+{
+    let mut queues = Vec::with_capacity(alloc, count)?;
+    for _ in 0..count {
+        queues.push_reserved(Queue::new(alloc));
+    }
+    Ok(queues)
+}
+
+/// Lets objects enter their queues, one after the other, and appends their places with the numbers of
+/// the queues.
+pub(crate) fn queue_all(
+    queues: &mut Vec<Queue>,
+    entries: &[Entry],
+    queued: &mut Vec<(u64, u64)>,
+) -> Result<(), AllocError>
+    requires { InRange queues.old.items entries.now }
+    ensures queues { OnOk result (queues.new.items ≡ push_all queues.old.items entries.now) }
+    ensures told { OnOk result (queued.new.items ≡ queued.old.items ++ placed entries.now) }
+    ensures err { OnErr result (BeginsWith queued.old.items queued.new.items) }
+{
+    for entry in entries {
+        let queue = &mut queues[entry.queue as usize];
+        queue.push(*entry)?;
+        queued.push((entry.place, entry.queue))?;
+    }
+    Ok(())
+}
+
+/// Appends the places of the objects in all queues, by rising number.
+pub(crate) fn append_queued(queues: &[Queue], places: &mut Vec<u64>) -> Result<(), AllocError>
+    ensures ok { OnOk result (places.new.items ≡ places.old.items ++ places_of (joined queues.now)) }
+    ensures err { OnErr result (BeginsWith places.old.items places.new.items) }
+{
+    for queue in queues {
+        queue.append(places)?;
+    }
+    Ok(())
 }
