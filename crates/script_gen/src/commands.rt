@@ -1,6 +1,7 @@
 //! The commands of a generated script, one after another.
 
-ghost use Rattle.std.specs.Prelude.{◌<◌, slice_index_or, ◌≡◌, ◌∷◌, [], MatchOption};
+ghost use Rattle.std.specs.Prelude.{◌<◌, slice_index_or, ◌≡◌, ◌∷◌, [], MatchOption, IfSome};
+ghost use Rattle.text_model.specs.ItemLine.{IsCommandInRange};
 ghost use Rattle.text_model.specs.Generated.{filling_commands, next_drawn, drawn_command, generated_commands};
 
 use std::marker::Model;
@@ -45,9 +46,10 @@ impl Commands {
         }
     }
 
-    /// The next command, and `None` behind the last.
+    /// The next command, and `None` behind the last. None of its numbers is above the greatest of its place.
     pub(crate) fn next(&mut self) -> Option<Command>
-        ensures { MatchOption result ((self.old ≡ []) × (self.new ≡ [])) (λ command. self.old ≡ command ∷ self.new) }
+        ensures ahead { MatchOption result ((self.old ≡ []) × (self.new ≡ [])) (λ command. self.old ≡ command ∷ self.new) }
+        ensures in_range { IfSome result IsCommandInRange }
     {
         if self.filled < FILLING {
             let command = filling_command(self.filled);

@@ -1,6 +1,7 @@
 //! The items of a generated script, one after another.
 
-ghost use Rattle.std.specs.Prelude.{◌<◌, slice_index_or, ◌≡◌, ◌∷◌, [], MatchOption};
+ghost use Rattle.std.specs.Prelude.{◌<◌, slice_index_or, ◌≡◌, ◌∷◌, [], MatchOption, IfSome};
+ghost use Rattle.text_model.specs.ItemLine.{HasLine};
 ghost use Rattle.text_model.specs.Generated.{generated_header, generated_items};
 
 use crate::commands::Commands;
@@ -41,9 +42,10 @@ impl Generator {
         }
     }
 
-    /// The next item, and `None` behind the last.
+    /// The next item, and `None` behind the last. It has a line, so none of its numbers is above the greatest of its place.
     pub fn next(&mut self) -> Option<Item>
-        ensures { MatchOption result ((self.old ≡ []) × (self.new ≡ [])) (λ item. self.old ≡ item ∷ self.new) }
+        ensures ahead { MatchOption result ((self.old ≡ []) × (self.new ≡ [])) (λ item. self.old ≡ item ∷ self.new) }
+        ensures lined { IfSome result HasLine }
     {
         if self.given < HEADER {
             let item = header_item(self.given);
