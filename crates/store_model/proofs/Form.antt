@@ -118,7 +118,7 @@ module _ {roots : ℕ} where
   becomes : {new : Store} (is_new : Store) → new ≡ is_new → IsInForm roots is_new → IsInForm roots new
   becomes is_new is r = subst (IsInForm roots) (sym is) r
 
-  minor_form : (old : Store) (lines : List Line) (new : Store) → IsInForm roots old → MinorCollection old lines new → IsInForm roots new
+  pub minor_form : (old : Store) (lines : List Line) (new : Store) → IsInForm roots old → MinorCollection old lines new → IsInForm roots new
   minor_form old lines new r c = becomes (after_minor old c.survives) c.leaves (record {
     kept = subst (λ bs. RiseBetween 1 bs old.next) (sym (births_same (clear_target (vanishes old c.survives)) (λ o. refl) (objects_where old.kept (λ x. not (vanishes old c.survives x)))))
         (rise_part (λ (o : Object). o.birth) (λ o. not (vanishes old c.survives o.birth)) 1 old.next old.kept r.kept);
@@ -148,7 +148,7 @@ module _ {roots : ℕ} where
       firsts [] = refl
       firsts (o ∷ os) = ap (λ bs. o.birth ∷ bs) (firsts os)
 
-  marking_form : (settings : Settings) (old : Store) (lines : List Line) (new : Store) → old.phase ≡ Marking → IsInForm roots old → MarkingStep settings old lines new → IsInForm roots new
+  pub marking_form : (settings : Settings) (old : Store) (lines : List Line) (new : Store) → old.phase ≡ Marking → IsInForm roots old → MarkingStep settings old lines new → IsInForm roots new
   marking_form settings old lines new marking r m = go (nat_le settings.increment (visited_words old.kept m.births)) m.goes_on
     where
       visited : IsInForm roots (with_visited old m.births)
@@ -158,7 +158,7 @@ module _ {roots : ℕ} where
       go true g = becomes (with_visited old m.births) g.1 visited
       go false (rest, e, is) = end_form settings (with_visited old m.births) rest new marking visited e
 
-  sweep_form : (settings : Settings) (old : Store) (lines : List Line) (new : Store) → IsInForm roots old → SweepingStep settings old lines new → IsInForm roots new
+  pub sweep_form : (settings : Settings) (old : Store) (lines : List Line) (new : Store) → IsInForm roots old → SweepingStep settings old lines new → IsInForm roots new
   sweep_form settings old lines new r s = becomes (after_sweep old s.freed s.phase) s.leaves (record {
     kept = r.kept;
     husks = rise_part (λ (husk : ℕ × ℕ). husk.0) (λ husk. not (s.freed husk.0)) 1 old.next old.husks r.husks;
@@ -174,7 +174,7 @@ module _ {roots : ℕ} where
       swept Sweeping can other = absurd (other refl)
       swept Finalizing can other = can
 
-  step_form : (phase : Phase) (settings : Settings) (old : Store) (lines : List Line) (new : Store) → old.phase ≡ phase → IsInForm roots old → StepFrom phase settings old lines new → IsInForm roots new
+  pub step_form : (phase : Phase) (settings : Settings) (old : Store) (lines : List Line) (new : Store) → old.phase ≡ phase → IsInForm roots old → StepFrom phase settings old lines new → IsInForm roots new
   step_form Scanning settings old lines new is r s = becomes _ s.leaves (record {
     kept = r.kept;
     husks = r.husks;
@@ -194,35 +194,35 @@ module _ {roots : ℕ} where
     slots = r.slots;
   })
 
-  when_form : (b : Bool) (Event : Store → List Line → Store → Type 0) (old : Store) (lines : List Line) (new : Store) → (Event old lines new → IsInForm roots new) → IsInForm roots old
+  pub when_form : (b : Bool) (Event : Store → List Line → Store → Type 0) (old : Store) (lines : List Line) (new : Store) → (Event old lines new → IsInForm roots new) → IsInForm roots old
       → When b Event old lines new → IsInForm roots new
   when_form true Event old lines new form r e = form e
   when_form false Event old lines new form r e = becomes old e.1 r
 
-  block_form : (is_due : Store → Bool) (settings : Settings) (old : Store) (lines : List Line) (new : Store) → IsInForm roots old → Block is_due settings old lines new → IsInForm roots new
+  pub block_form : (is_due : Store → Bool) (settings : Settings) (old : Store) (lines : List Line) (new : Store) → IsInForm roots old → Block is_due settings old lines new → IsInForm roots new
   block_form is_due settings old lines new r b =
       let mid = minor_form old b.minor b.mid r b.collected in
       when_form (is_due b.mid) (MajorStep settings) b.mid b.major new (step_form b.mid.phase settings b.mid b.major new refl mid) mid b.stepped
 
-  cycle_form : (settings : Settings) (old : Store) (lines : List Line) (new : Store) → IsInForm roots old → Cycle settings old lines new → IsInForm roots new
+  pub cycle_form : (settings : Settings) (old : Store) (lines : List Line) (new : Store) → IsInForm roots old → Cycle settings old lines new → IsInForm roots new
   cycle_form settings old lines new r (Last block ends) = block_form always settings old lines new r block
   cycle_form settings old _ new r (More {mid = mid} {lines = first} {rest = rest} block goes_on cycle) = cycle_form settings mid rest new (block_form always settings old first mid r block) cycle
 
-  two_form : (settings : Settings) (old : Store) (lines : List Line) (new : Store) → IsInForm roots old → TwoCycles settings old lines new → IsInForm roots new
+  pub two_form : (settings : Settings) (old : Store) (lines : List Line) (new : Store) → IsInForm roots old → TwoCycles settings old lines new → IsInForm roots new
   two_form settings old lines new r c = cycle_form settings c.mid c.second new (cycle_form settings old c.first c.mid r c.ends) c.again
 
-  collect_form : (phase : Phase) (settings : Settings) (old : Store) (lines : List Line) (new : Store) → IsInForm roots old → CollectFrom phase settings old lines new → IsInForm roots new
+  pub collect_form : (phase : Phase) (settings : Settings) (old : Store) (lines : List Line) (new : Store) → IsInForm roots old → CollectFrom phase settings old lines new → IsInForm roots new
   collect_form Scanning settings old lines new r c = cycle_form settings old lines new r c
   collect_form Marking settings old lines new r c = two_form settings old lines new r c
   collect_form Sweeping settings old lines new r c = two_form settings old lines new r c
   collect_form Finalizing settings old lines new r c = two_form settings old lines new r c
 
-  room_form : (settings : Settings) (old : Store) (words : ℕ) (lines : List Line) (new : Store) → IsInForm roots old → MakesRoom settings old words lines new → IsInForm roots new
+  pub room_form : (settings : Settings) (old : Store) (words : ℕ) (lines : List Line) (new : Store) → IsInForm roots old → MakesRoom settings old words lines new → IsInForm roots new
   room_form settings old words lines new r m =
       let mid = when_form (needs_block settings old words) (Block is_step_due settings) old m.first m.mid (block_form is_step_due settings old m.first m.mid r) r m.block in
       when_form (exceeds_limit settings m.mid words) (Collects settings) m.mid m.second new (collect_form m.mid.phase settings m.mid m.second new mid) mid m.collect
 
-  birth_form : (found : Option TypeInfo) (setup : Setup) (old : Store) (request : Request) (lines : List Line) (new : Store) → IsInForm roots old
+  pub birth_form : (found : Option TypeInfo) (setup : Setup) (old : Store) (request : Request) (lines : List Line) (new : Store) → IsInForm roots old
       → BirthWithRoomOf found setup old request lines new → IsInForm roots new
   birth_form None setup old request lines new r b = absurd b
   birth_form (Some info) setup old request lines new r b =
