@@ -1,6 +1,6 @@
 -- Collections of every kind, and births with those that come before them, leave a sound store in form, and slots as they were.
-use Rattle.std.proofs.Common.{◌≡◌, ℕ, ◌+◌, ◌<◌, ◌≤◌, Bool, true, false, IsTrue, List, [], ◌∷◌, map, length, Option, Some, None, refl, sym, ap, ◌∙◌, subst, inl, inr, arith}
-use Rattle.std.specs.Prelude.{IsFalse, not, ◌&&◌, nat_le}
+use Rattle.std.proofs.Common.{◌≡◌, ℕ, ◌+◌, ◌<◌, ◌≤◌, Bool, true, false, IsTrue, List, [], ◌∷◌, map, length, Option, Some, None, refl, sym, ap, ◌∙◌, subst, arith}
+use Rattle.std.specs.Prelude.{◌-◌, IsFalse, not, ◌&&◌, nat_le}
 use Rattle.std.specs.List.{list_all}
 use Rattle.std.proofs.lemmas.List.{length-map}
 use Rattle.type_table.specs.declared.info.TypeInfo.{TypeInfo}
@@ -13,7 +13,7 @@ use Rattle.object_model.specs.Newborn.{Request}
 use Rattle.object_model.specs.Object.{Object}
 use Rattle.object_model.specs.Sets.{is_in}
 use Rattle.object_model.specs.Setup.{Setup}
-use Rattle.object_model.proofs.Members.{in-either, and_first, and_second}
+use Rattle.object_model.proofs.Members.{and_first, and_second}
 use Rattle.store_model.specs.Store.{Store, is_settled}
 use Rattle.store_model.specs.Slots.{held}
 use Rattle.store_model.specs.MinorCollection.{MinorCollection, AreAllPinned, after_minor}
@@ -21,7 +21,7 @@ use Rattle.store_model.specs.Marking.{EndOfMarking, MarkingStep, GoesOn, with_vi
 use Rattle.store_model.specs.Sweeping.{CanBe, without_husks, after_sweep, after_finalizing}
 use Rattle.store_model.specs.Collections.{StepFrom, MajorStep, When, Block, Cycle, Last, More, TwoCycles, CollectFrom, Collect as Collects, MakesRoom, always, is_step_due, needs_block, exceeds_limit}
 use Rattle.store_model.specs.Births.{BirthWithRoomOf}
-use Rattle.store_model.specs.Sound.{IsSound, IsPhaseSound, RiseBetween, IsInForm}
+use Rattle.store_model.specs.Sound.{IsSound, IsPhaseSound, AreNoneOf, RiseBetween, IsInForm}
 use Rattle.store_model.proofs.Rounds.{list_all-is_in}
 use Rattle.store_model.proofs.Form.{minor_form, marking_form, sweep_form, step_form, birth_form}
 use Rattle.store_model.proofs.After.{kept_left}
@@ -30,6 +30,9 @@ use Rattle.store_model.proofs.MinorSound.{minor_sound, minor_links_sound, all_pi
 use Rattle.store_model.proofs.StartSound.{start_sound}
 use Rattle.store_model.proofs.MarkedSound.{end_sound}
 use Rattle.store_model.proofs.HusksSound.{husks_sound}
+use Rattle.store_model.proofs.VisitSound.{visits_sound}
+use Rattle.store_model.proofs.SoundLaws.{sound_but}
+use Rattle.store_model.specs.MarkingOrder.{AreAllIn}
 use Rattle.store_model.proofs.FinalSound.{final_sound}
 use Rattle.store_model.proofs.BirthSound.{sound_born}
 use Rattle.store_model.proofs.RootLaws.{held_root}
@@ -43,49 +46,16 @@ not_in : (b : Bool) → IsTrue (not b) → IsFalse b
 not_in true t = absurd (let no : ⊥ = cc in no)
 not_in false t = refl
 
--- visits leave a sound store
-visits_sound : (settings : Settings) (store : Store) (births : List ℕ) → store.phase ≡ Marking
-    → IsTrue (list_all (λ x. is_settled store.settled x && (not (is_in x store.visited) && not (is_in x store.unreached))) births)
-    → IsSound settings store → IsSound settings (with_visited store births)
-visits_sound settings store births marking unvisited s =
-    let p : IsPhaseSound Marking settings.sweep store = subst (λ (ph : Phase). IsPhaseSound ph settings.sweep store) marking s.phase in
+-- what may be visited is settled, and was not found unreached
+can_visit : (store : Store) (births : List ℕ) → IsTrue (list_all (λ x. is_settled store.settled x && (not (is_in x store.visited) && not (is_in x store.unreached))) births)
+    → AreAllIn births store.settled × AreNoneOf births store.unreached
+can_visit store births unvisited =
     let can : (x : ℕ) → IsTrue (is_in x births) → IsTrue (is_settled store.settled x && (not (is_in x store.visited) && not (is_in x store.unreached))) =
-    λ x t. list_all-is_in (λ y. is_settled store.settled y && (not (is_in y store.visited) && not (is_in y store.unreached))) x births unvisited t in
-    record {
-      fields = s.fields;
-      settled = s.settled;
-      roots = s.roots;
-      registered = s.registered;
-      pins = s.pins;
-      queues_rise = s.queues_rise;
-      waiting = s.waiting;
-      once = s.once;
-      roots_reached = s.roots_reached;
-      unreached_cut_off = s.unreached_cut_off;
-      unreached_born = s.unreached_born;
-      roots_retained = s.roots_retained;
-      registered_retained = s.registered_retained;
-      doomed_cut_off = s.doomed_cut_off;
-      doomed_born = s.doomed_born;
-      phase = subst (λ (ph : Phase). IsPhaseSound ph settings.sweep (with_visited store births)) (sym marking) (
-        p.0,
-        p.1,
-        record {
-          visited_settled = λ x t. elim (in-either x store.visited births t) [
-            | inl u ↦ p.2.visited_settled x u
-            | inr u ↦ and_first (is_settled store.settled x) (not (is_in x store.visited) && not (is_in x store.unreached)) (can x u)
-          ];
-          visited_reached = λ x t. elim (in-either x store.visited births t) [
-            | inl u ↦ p.2.visited_reached x u
-            | inr u ↦ not_in (is_in x store.unreached) (and_second (not (is_in x store.visited)) (not (is_in x store.unreached))
-                (and_second (is_settled store.settled x) (not (is_in x store.visited) && not (is_in x store.unreached)) (can x u)))
-          ];
-          doomed_unreached = p.2.doomed_unreached;
-        },
-      );
-      links = s.links;
-      births = s.births;
-    }
+    λ x t. list_all-is_in (λ y. is_settled store.settled y && (not (is_in y store.visited) && not (is_in y store.unreached))) x births unvisited t in (
+      λ x t. and_first (is_settled store.settled x) (not (is_in x store.visited) && not (is_in x store.unreached)) (can x t),
+      λ x t. not_in (is_in x store.unreached) (and_second (not (is_in x store.visited)) (not (is_in x store.unreached))
+          (and_second (is_settled store.settled x) (not (is_in x store.visited) && not (is_in x store.unreached)) (can x t))),
+    )
 
 module _ (settings : Settings) (sweeps : 0 < settings.sweep) where
   -- a store that is sound and in form
@@ -122,7 +92,7 @@ module _ (settings : Settings) (sweeps : 0 < settings.sweep) where
   marking_leaves old lines new marking pinned w m = go (nat_le settings.increment (visited_words old.kept m.births)) m.goes_on
     where
       mid : IsSound settings (with_visited old m.births)
-      mid = visits_sound settings old m.births marking m.can.unvisited w.sound
+      mid = let can = can_visit old m.births m.can.unvisited in visits_sound settings old m.births marking can.0 can.1 w.sound
 
       go : (b : Bool) → GoesOn b settings (with_visited old m.births) (map (λ x. line.Visited x) m.births) lines new → Leaves old new
       go true g = leaves (with_visited old m.births) g.1 mid refl (marking_form settings old lines new marking w.form m)
@@ -133,26 +103,7 @@ module _ (settings : Settings) (sweeps : 0 < settings.sweep) where
   sweep_sound old freed phase sweeping can s =
       let p : IsPhaseSound Sweeping settings.sweep old = subst (λ (ph : Phase). IsPhaseSound ph settings.sweep old) sweeping s.phase in
       let h : IsSound settings (without_husks old freed) = husks_sound settings old freed sweeping s in
-      record {
-        fields = h.fields;
-        settled = h.settled;
-        roots = h.roots;
-        registered = h.registered;
-        pins = h.pins;
-        queues_rise = h.queues_rise;
-        waiting = h.waiting;
-        once = h.once;
-        roots_reached = h.roots_reached;
-        unreached_cut_off = h.unreached_cut_off;
-        unreached_born = h.unreached_born;
-        roots_retained = h.roots_retained;
-        registered_retained = h.registered_retained;
-        doomed_cut_off = h.doomed_cut_off;
-        doomed_born = h.doomed_born;
-        phase = phase_after phase can p;
-        links = h.links;
-        births = h.births;
-      }
+      sound_but settings (without_husks old freed) (without_husks old freed).husks (without_husks old freed).homes old.visited (old.left - 1) phase (phase_after phase can p) h.births h
     where
       phase_after : (to : Phase) → CanBe to (after_sweep old freed phase) → IsPhaseSound Sweeping settings.sweep old → IsPhaseSound to settings.sweep (after_sweep old freed phase)
       phase_after Scanning can p = absurd can
