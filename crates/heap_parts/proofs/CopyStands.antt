@@ -14,7 +14,8 @@ use Rattle.heap_parts.specs.StandsFor.{PartsStandFor}
 use Rattle.heap_parts.specs.Effects.{with_word_at, ref_place, layout_in}
 use Rattle.heap_parts.proofs.StandLaws.{in_slot, link_stands}
 use Rattle.store_model.proofs.RootLaws.{held_root, can_root, can_refer}
-use Rattle.heap_parts.proofs.RootStands.{ref_is, found-ref}
+use Rattle.heap_parts.proofs.RootStands.{ref_is}
+use Rattle.store_model.proofs.RootChanges.{found-ref}
 
 -- One reference of the object in a slot becomes one of that in another slot. The item is remembered where the object is settled.
 pub copy_step_stands : (heap : HeapParts) (store : Store) (root item from from_item : ℕ) (s : PartsStandFor heap store) → place_in heap root ≢ 0 → place_in heap from ≢ 0

@@ -1,12 +1,12 @@
 -- The own count of a structure falls, or the oldest of the dead queue is taken.
 use Rattle.std.proofs.Common.{◌≡◌, ◌≢◌, ℕ, ◌-◌, Bool, true, false, IsTrue, nat_eq, List, ◌∷◌, Option, Some, None, refl, sym, ap, ap₂, ◌∙◌, subst, inl, inr, arith}
-use Rattle.std.specs.Prelude.{IsFalse, option_map, option_and_then, ◌==◌, not, cond, if◌then◌else◌}
+use Rattle.std.specs.Prelude.{IsFalse, option_map, option_and_then, ◌==◌, if◌then◌else◌}
 use Rattle.std.specs.List.{IsDistinct}
 use Rattle.std.proofs.lemmas.Bool.{cases_Bool, ne_eqb}
 use Rattle.std.proofs.lemmas.Bool.Decides.{eqb_tells}
 use Rattle.object_model.proofs.Members.{is_in-head}
-use Rattle.type_table.specs.Table.{Table, KeysRise, value_at, with_value}
-use Rattle.type_table.proofs.TableLaws.{value_at-with_value, value_at-without_key, KeysRise-with_value, KeysRise-entries_where}
+use Rattle.type_table.specs.Table.{Table, value_at, with_value}
+use Rattle.type_table.proofs.TableLaws.{value_at-with_value, KeysRise-with_value}
 use Rattle.store_model.specs.Store.{Store, Struct, Linked, Unlinked, Pending}
 use Rattle.object_model.specs.Sets.{is_in}
 use Rattle.store_model.specs.Structs.{object_of, forced_object, with_object, with_objects, lowered, take_dead, with_struct}
@@ -16,19 +16,9 @@ use Rattle.heap_parts.specs.Parts.{HeapParts}
 use Rattle.heap_parts.specs.StandsFor.{PartsStandFor}
 use Rattle.store_model.proofs.RootLaws.{relieves_none, can_root, are_roots}
 use Rattle.object_model.proofs.Distinct.{differ-in}
-use Rattle.store_model.proofs.StructLaws.{PutsAt, forced-found, with_value-objects, without_key-objects}
-use Rattle.heap_parts.proofs.StructStands.{CanFall, with_links, struct_stands, struct-named, not-queued, some-pending}
-
-object-lowered : (t : Struct) (x : ℕ) → option_and_then object_of (lowered t) ≡ Some x → object_of t ≡ Some x
-object-lowered (Linked p light o own) x e = e
-object-lowered (Unlinked own) x e = elim (eqb_tells own 1) [ inl z ↦ rw z.0 at e | inr z ↦ rw z.0 at e ]
-object-lowered Pending x e = e
-
-p_linked-lowered : (t : Struct) (x : ℕ) → option_and_then p_linked_object (lowered t) ≡ Some x → p_linked_object t ≡ Some x
-p_linked-lowered (Linked true light o own) x e = e
-p_linked-lowered (Linked false light o own) x e = e
-p_linked-lowered (Unlinked own) x e = elim (eqb_tells own 1) [ inl z ↦ (let none : None ≡ Some x = rw z.0 at e in absurd (let no : ⊥ = cc in no)) | inr z ↦ rw z.0 at e ]
-p_linked-lowered Pending x e = e
+use Rattle.store_model.proofs.StructLaws.{PutsAt, forced-found, with_value-objects}
+use Rattle.heap_parts.proofs.StructStands.{with_links, struct_stands, struct-named}
+use Rattle.store_model.proofs.StructChanges.{CanFall, not-queued, some-pending, object-lowered, p_linked-lowered, forced-lowered, struct-at, struct-rises, struct-objects}
 
 live-lowered : (t : Struct) → CanFall t → lowered t ≢ Some Pending
 live-lowered (Linked p light o own) l e = let no : ⊥ = cc in no
@@ -61,32 +51,6 @@ not-waiting : (t : Struct) → CanFall t → t ≢ Pending
 not-waiting (Linked p light o own) l e = let no : ⊥ = cc in no
 not-waiting (Unlinked own) l e = let no : ⊥ = cc in no
 not-waiting Pending l e = absurd l
-
-forced-lowered : (t : Struct) (x : ℕ) → option_and_then forced_object (lowered t) ≡ Some x → forced_object t ≡ Some x
-forced-lowered (Linked true light o own) x e = elim (eqb_tells (own - 1) 0) [
-  | inl z ↦ absurd (let none : None ≡ Some x = rw z.0 at e in let no : ⊥ = cc in no)
-  | inr z ↦
-      (let some : Some o ≡ Some x = rw z.0 at e in
-      let ne = z.1 in
-      let high : (own == 0) ≡ false = ne_eqb own 0 (λ y. absurd (let no : ⊥ = ne (omega (arith, y)) in no)) in rw high some)
-]
-forced-lowered (Linked false light o own) x e = e
-forced-lowered (Unlinked own) x e = elim (eqb_tells own 1) [ inl z ↦ (let none : None ≡ Some x = rw z.0 at e in absurd (let no : ⊥ = cc in no)) | inr z ↦ rw z.0 at e ]
-forced-lowered Pending x e = e
-
--- a structure comes or goes, in look-ups and under other names
-struct-at : (structs : Table Struct) (number q : ℕ) (found : Option Struct) → value_at (with_struct structs number found) q ≡ cond (q == number) found (value_at structs q)
-struct-at structs number q None = value_at-without_key structs number q
-struct-at structs number q (Some t) = value_at-with_value structs number q t
-
-struct-rises : (structs : Table Struct) (number : ℕ) (found : Option Struct) → KeysRise structs → KeysRise (with_struct structs number found)
-struct-rises structs number None r = KeysRise-entries_where (λ other. not (other == number)) structs r
-struct-rises structs number (Some t) r = KeysRise-with_value structs number t r
-
-struct-objects : (name : ℕ → ℕ) (structs : Table Struct) (number : ℕ) (found : Option Struct)
-    → with_objects name (with_struct structs number found) ≡ with_struct (with_objects name structs) number (option_map (with_object name) found)
-struct-objects name structs number None = without_key-objects name structs number
-struct-objects name structs number (Some t) = with_value-objects name structs number t
 
 -- The own count of a structure falls.
 pub dec_stands : (heap : HeapParts) (store : Store) (number : ℕ) (t : Struct) (s : PartsStandFor heap store) → value_at heap.links.structs number ≡ Some t → CanFall t

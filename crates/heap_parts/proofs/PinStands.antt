@@ -1,10 +1,7 @@
 -- An object of the nursery is pinned once more.
-use Rattle.std.proofs.Common.{◌≡◌, ◌≢◌, ℕ, ◌+◌, Bool, true, false, IsTrue, List, [], ◌∷◌, map, Option, Some, None, refl, sym, ap, ◌∙◌, subst, inl, inr, arith}
+use Rattle.std.proofs.Common.{◌≡◌, ◌≢◌, ℕ, Bool, true, false, IsTrue, List, [], ◌∷◌, map, Option, Some, refl, sym, ap, ◌∙◌, subst, inl, inr}
 use Rattle.std.specs.Prelude.{not, ◌||◌, ◌==◌, ◌++◌}
 use Rattle.std.proofs.lemmas.Bool.{ne_eqb}
-use Rattle.std.proofs.lemmas.Bool.Decides.{nat_tests}
-use Rattle.type_table.specs.declared.info.Shape.{Shape}
-use Rattle.type_table.specs.declared.info.Shape.TheVariants.{Fixed, IntArray, RefArray, Weak}
 use Rattle.type_table.specs.declared.info.TypeInfo.{TypeInfo}
 use Rattle.type_table.specs.Table.{Table}
 use Rattle.object_header.specs.Words.{has_flag, with_flag}
@@ -12,7 +9,6 @@ use Rattle.object_header.specs.declared.flags.Flag.{Flag}
 use Rattle.object_header.specs.declared.flags.Flag.TheVariants.{Track, Visited, HasShadow, Pinned, HasCards, CardsSet, Free, Shadow, Order1, Order2}
 use Rattle.object_header.proofs.WordLaws.{has_flag-with_flag_same, has_flag-with_flag_other, type_of-with_flag, IsHeader-with_flag}
 use Rattle.object_view.proofs.FoundLaws.{found-at, refs-from}
-use Rattle.object_model.specs.Layout.{layout_of}
 use Rattle.store_model.specs.Store.{Store}
 use Rattle.object_model.specs.Object.{object_at}
 use Rattle.object_model.specs.Sets.{is_in}
@@ -20,7 +16,7 @@ use Rattle.store_model.specs.Slots.{held}
 use Rattle.object_model.specs.Fields.{refs_of}
 use Rattle.store_model.specs.Roots.{target_in, roots_of}
 use Rattle.store_model.specs.Identity.{can_refer, pin_count, pinned_more, has_pin_room, pinned_with}
-use Rattle.object_model.specs.ObjectWords.{words_from, renamed, info_at, layout_at, object_from, target_of}
+use Rattle.object_model.specs.ObjectWords.{words_from, renamed, info_at, layout_at, object_from}
 use Rattle.heap_parts.specs.Parts.{HeapParts, word_in, place_in}
 use Rattle.heap_parts.specs.Places.{is_young, young_places}
 use Rattle.heap_parts.specs.Headers.{IsYoungHeader}
@@ -32,30 +28,10 @@ use Rattle.store_model.proofs.RootLaws.{held_root, are_roots, RootChange}
 use Rattle.heap_parts.proofs.HeaderLaws.{with_pins, pins_stand}
 use Rattle.store_model.proofs.RootChanges.{pins_change}
 use Rattle.heap_parts.proofs.PinLaws.{named-more}
-use Rattle.store_model.proofs.PinLaws.{keys, more-here, more-cases, more_sound, is_more}
-
-no-refs : (s : Shape) (p third : ℕ) → can_refer s ≡ false → (layout_of s p third).ref_count ≡ 0
-no-refs (Fixed a b) p third e = grind (arith, nat_tests)
-no-refs IntArray p third e = refl
-no-refs RefArray p third e = absurd (let no : ⊥ = cc in no)
-no-refs Weak p third e = refl
-
-no-target : (s : Shape) (t : Option ℕ) → can_refer s ≡ false → target_of s t ≡ None
-no-target (Fixed a b) t e = refl
-no-target IntArray t e = refl
-no-target RefArray t e = refl
-no-target Weak t e = absurd (let no : ⊥ = cc in no)
-
-no-refs-at : (types : Table TypeInfo) (w : ℕ → ℕ) (p : ℕ) → can_refer (info_at types w p).shape ≡ false → (layout_at types w p).ref_count ≡ 0
-unfolding layout_at
-no-refs-at types w p e = no-refs (info_at types w p).shape p (w (p + 2)) e
+use Rattle.store_model.proofs.PinLaws.{keys, more-here, more-cases, more_sound, is_more, no-refs-at, bare-target}
 
 bare-refs : (types : Table TypeInfo) (name w : ℕ → ℕ) (p : ℕ) → can_refer (info_at types w p).shape ≡ false → (object_from types name w p).refs ≡ []
 bare-refs types name w p e = refs-from types name w p ∙ ap (λ (k : ℕ). map (renamed name) (words_from w (layout_at types w p).ref_start k)) (no-refs-at types w p e)
-
-bare-target : (types : Table TypeInfo) (name w : ℕ → ℕ) (p : ℕ) → can_refer (info_at types w p).shape ≡ false → (object_from types name w p).target ≡ None
-unfolding object_from
-bare-target types name w p e = no-target (info_at types w p).shape (renamed name (w (layout_at types w p).ref_start)) e
 
 pinned-header : (word : ℕ) → IsYoungHeader word → IsYoungHeader (with_flag word Pinned)
 pinned-header word h =

@@ -1,6 +1,6 @@
 -- What the parts of a heap stand for where only what leads to objects changes: slots, lists of finalizers, structures.
 use Rattle.std.proofs.Common.{◌≡◌, ◌≢◌, ℕ, zero, suc, ◌<◌, ◌⊎◌, IsTrue, List, [], ◌∷◌, Option, Some, None, refl, sym, ap, ◌∙◌, subst, inl, inr}
-use Rattle.std.specs.Prelude.{filter_map, slice_set, option_and_then}
+use Rattle.std.specs.Prelude.{slice_set, option_and_then}
 use Rattle.std.proofs.lemmas.List.{length-set, map-set}
 use Rattle.object_model.proofs.Members.{is_in-head, is_in-tail, is_in-cases}
 use Rattle.object_view.proofs.FoundLaws.{found-at, ref-from, ref-pointer}
@@ -23,7 +23,7 @@ use Rattle.heap_parts.proofs.SlotLaws.{held-named, slot-pointer}
 use Rattle.heap_parts.proofs.StandLaws.{in_slot}
 use Rattle.store_model.proofs.RootLaws.{held_root, Relieves, relieves_none, can_root, can_refer, RootChange, sound_rerooted, order_relieved}
 use Rattle.store_model.proofs.SoundLaws.{CanBeRoot}
-use Rattle.store_model.proofs.RootChanges.{slot_change}
+use Rattle.store_model.proofs.RootChanges.{slot_change, found-ref}
 
 -- the heap with what leads to objects in another one
 abbrev pub with_lists : HeapParts → HeapParts → HeapParts
@@ -107,18 +107,6 @@ pub object-found : (heap : HeapParts) (store : Store) (root : ℕ) (s : PartsSta
 object-found heap store root s full =
     let here = in_slot heap store root s full in
     ap (option_and_then (object_at store.kept)) here.named ∙ found-at (place_in heap root) s.words.objects here.there
-
-ref-in : (refs : List (Option ℕ)) (i y : ℕ) → ref_in refs i ≡ Some y → IsTrue (is_in y (filter_map (λ r. r) refs))
-ref-in [] i y e = absurd (let no : ⊥ = cc in no)
-ref-in (None ∷ refs) zero y e = absurd (let no : ⊥ = cc in no)
-ref-in (Some x ∷ refs) zero y e = let same : x ≡ y = cc in subst (λ (k : ℕ). IsTrue (is_in k (x ∷ filter_map (λ r. r) refs))) same (is_in-head x (filter_map (λ r. r) refs))
-ref-in (None ∷ refs) (suc i) y e = ref-in refs i y e
-ref-in (Some x ∷ refs) (suc i) y e = is_in-tail y x (filter_map (λ r. r) refs) (ref-in refs i y e)
-
--- a reference of an object that is there is among its references
-pub found-ref : (found : Option Object) (i y : ℕ) → ref_in (refs_of found) i ≡ Some y → IsTrue (is_in y (referents_in found))
-found-ref None i y e = absurd (let no : ⊥ = cc in no)
-found-ref (Some o) i y e = ref-in o.refs i y e
 
 -- a reference of the object in a slot
 pub ref_is : (heap : HeapParts) (store : Store) (root item : ℕ) (s : PartsStandFor heap store) → place_in heap root ≢ 0 → item < (layout_in heap root).ref_count

@@ -1,16 +1,14 @@
 -- What the parts of a heap stand for where a C structure comes, goes or changes.
-use Rattle.std.proofs.Common.{◌≡◌, ◌≢◌, ℕ, ◌+◌, ◌<◌, ◌≤◌, ◌⊎◌, Bool, true, false, IsTrue, List, Option, Some, None, refl, sym, ap, ap₂, ◌∙◌, subst, inl, inr, arith}
-use Rattle.std.specs.Prelude.{IsFalse, filter, option_map, option_and_then, ◌==◌, not, cond, if◌then◌else◌}
-use Rattle.std.proofs.lemmas.Bool.{cases_Bool, ne_eqb}
+use Rattle.std.proofs.Common.{◌≡◌, ◌≢◌, ℕ, ◌≤◌, Bool, true, false, IsTrue, List, Option, Some, None, refl, sym, ap, ap₂, ◌∙◌, subst, inl, inr}
+use Rattle.std.specs.Prelude.{filter, option_map, option_and_then, ◌==◌, not, cond}
 use Rattle.std.proofs.lemmas.Bool.Decides.{eqb_tells}
 use Rattle.type_table.specs.Table.{Table, value_at, with_value}
 use Rattle.type_table.proofs.TableLaws.{value_at-with_value, KeysRise-with_value}
-use Rattle.object_model.specs.Object.{Object}
 use Rattle.store_model.specs.Store.{Store, Struct, Linked, Unlinked, Pending}
 use Rattle.object_model.specs.Sets.{is_in}
 use Rattle.store_model.specs.Roots.{is_kept}
 use Rattle.store_model.specs.Structs.{Structs, object_of, forced_object, with_object, with_objects, raised}
-use Rattle.store_model.specs.Sound.{AreLinksSound, p_linked_object, IsOwnSound}
+use Rattle.store_model.specs.Sound.{p_linked_object, IsOwnSound}
 use Rattle.store_model.specs.PlainCommands.{link_struct, structs_linked, raise_struct, raised_at, forced_anew, Revives, without_revived}
 use Rattle.heap_parts.specs.Parts.{HeapParts, place_in}
 use Rattle.heap_parts.specs.Lists.{HoldsLinks}
@@ -23,18 +21,7 @@ use Rattle.store_model.proofs.ReachLaws.{relieves_revived, can_revived}
 use Rattle.heap_parts.proofs.RootStands.{rooted_stands}
 use Rattle.store_model.proofs.StructLaws.{PutsAt, forced-found, value_at-objects, with_value-objects}
 use Rattle.store_model.proofs.RootChanges.{struct_change}
-
--- the own count may rise: it has one, and it is below the greatest
-abbrev pub CanRise : Struct → Type 0
-CanRise (Linked p light object own) = own < 4294967295
-CanRise (Unlinked own) = own < 4294967295
-CanRise Pending = ⊥
-
--- the own count may fall: it has one, and it is above 0
-abbrev pub CanFall : Struct → Type 0
-CanFall (Linked p light object own) = 0 < own
-CanFall (Unlinked own) = 0 < own
-CanFall Pending = ⊥
+use Rattle.store_model.proofs.StructChanges.{CanRise, object-raised, p_linked-raised, live-raised, own-raised, not-waiting, forced-raised, anew-object, not-queued, some-pending}
 
 -- the heap with other structures
 abbrev pub with_links : HeapParts → Structs → HeapParts
@@ -70,32 +57,6 @@ pub struct_stands : {heap : HeapParts} {store : Store} (s : PartsStandFor heap s
 struct_stands s number after left found unreached doomed at there puts r can =
     rooted_stands s refl (struct_change unreached doomed s.sound puts r can) refl s.slots s.finalizers (links_held number after left found s.links at there)
 
-object-raised : (t : Struct) → object_of (raised t) ≡ object_of t
-object-raised (Linked p light o own) = refl
-object-raised (Unlinked own) = refl
-object-raised Pending = refl
-
-p_linked-raised : (t : Struct) → p_linked_object (raised t) ≡ p_linked_object t
-p_linked-raised (Linked true light o own) = refl
-p_linked-raised (Linked false light o own) = refl
-p_linked-raised (Unlinked own) = refl
-p_linked-raised Pending = refl
-
-live-raised : (t : Struct) → CanRise t → raised t ≢ Pending
-live-raised (Linked p light o own) l e = let no : ⊥ = cc in no
-live-raised (Unlinked own) l e = let no : ⊥ = cc in no
-live-raised Pending l e = absurd l
-
-own-raised : (t : Struct) → CanRise t → IsOwnSound (raised t)
-own-raised (Linked p light o own) l = omega (arith, l)
-own-raised (Unlinked own) l = (omega arith, omega (arith, l))
-own-raised Pending l = absurd l
-
-not-waiting : (t : Struct) → CanRise t → t ≢ Pending
-not-waiting (Linked p light o own) l e = let no : ⊥ = cc in no
-not-waiting (Unlinked own) l e = let no : ⊥ = cc in no
-not-waiting Pending l e = absurd l
-
 rise-named : (name : ℕ → ℕ) (t : Struct) → CanRise t → CanRise (with_object name t)
 rise-named name (Linked p light o own) l = l
 rise-named name (Unlinked own) l = l
@@ -105,36 +66,6 @@ raised-named : (name : ℕ → ℕ) (t : Struct) → with_object name (raised t)
 raised-named name (Linked p light o own) = refl
 raised-named name (Unlinked own) = refl
 raised-named name Pending = refl
-
--- what a raised structure keeps it kept, or it keeps it anew
-forced-raised : (t : Struct) (x : ℕ) → forced_object (raised t) ≡ Some x → (forced_object t ≡ Some x) ⊎ (forced_anew (Some t) ≡ Some x)
-forced-raised (Linked true light o own) x e =
-    let up : (own + 1 == 0) ≡ false = ne_eqb (own + 1) 0 (λ z. absurd (let no : ⊥ = omega (arith, z) in no)) in
-    let gets : Some o ≡ Some x = sym (ap (λ (b : Bool). if b then None else Some o) up) ∙ e in
-    elim (eqb_tells own 0) [ inl z ↦ inr (rw z.0 gets) | inr z ↦ inl (rw z.0 gets) ]
-forced-raised (Linked false light o own) x e = inl e
-forced-raised (Unlinked own) x e = inl e
-forced-raised Pending x e = inl e
-
-anew-object : (t : Struct) (x : ℕ) → forced_anew (Some t) ≡ Some x → object_of t ≡ Some x
-anew-object (Linked true light o own) x e = elim (eqb_tells own 0) [
-  | inl z ↦ rw z.0 at e
-  | inr z ↦ absurd (let none : None ≡ Some x = rw z.0 at e in let no : ⊥ = cc in no)
-]
-anew-object (Linked false light o own) x e = absurd (let no : ⊥ = cc in no)
-anew-object (Unlinked own) x e = absurd (let no : ⊥ = cc in no)
-anew-object Pending x e = absurd (let no : ⊥ = cc in no)
-
--- a structure that does not wait is not in the queue
-pub not-queued : {kept : List Object} {structs : Table Struct} {dead : List ℕ} → AreLinksSound kept structs dead → (number : ℕ) (found : Option Struct) → value_at structs number ≡ found
-    → found ≢ Some Pending → IsFalse (is_in number dead)
-not-queued {dead = dead} s number found is live = elim (cases_Bool (is_in number dead)) [
-  | inl t ↦ absurd (live (sym is ∙ s.dead_pending number t))
-  | inr f ↦ f
-]
-
-pub some-pending : (t : Struct) → t ≢ Pending → Some t ≢ Some Pending
-some-pending t ne e = ne (let same : t ≡ Pending = cc in same)
 
 -- The own count of a structure rises: an object that it keeps anew is revived.
 pub inc_stands : (heap : HeapParts) (store : Store) (number : ℕ) (t : Struct) (s : PartsStandFor heap store) → value_at heap.links.structs number ≡ Some t → CanRise t

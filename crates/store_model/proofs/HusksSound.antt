@@ -10,6 +10,9 @@ use Rattle.object_model.specs.Object.{Object}
 use Rattle.store_model.specs.Store.{Store}
 use Rattle.object_model.specs.Sets.{is_in}
 use Rattle.store_model.specs.Sweeping.{is_freed}
+use Rattle.type_table.specs.Table.{entries_where}
+use Rattle.store_model.specs.Sweeping.{husks_where}
+use Rattle.store_model.proofs.SoundLaws.{sound_but}
 use Rattle.store_model.specs.Sound.{IsSound, IsPhaseSound, births_in}
 use Rattle.store_model.specs.Sweeping.{without_husks}
 use Rattle.store_model.proofs.MarkedSound.{entry_part}
@@ -18,35 +21,19 @@ use Rattle.object_model.proofs.Distinct.{distinct-less}
 
 -- The store without some husks is sound.
 pub husks_sound : (settings : Settings) (store : Store) (freed : ℕ → Bool) → store.phase ≡ Sweeping → IsSound settings store → IsSound settings (without_husks store freed)
-husks_sound settings store freed sweeping s = record {
-  fields = s.fields;
-  settled = s.settled;
-  roots = s.roots;
-  registered = s.registered;
-  pins = s.pins;
-  waiting = s.waiting;
-  queues_rise = s.queues_rise;
-  once = s.once;
-  roots_reached = s.roots_reached;
-  unreached_cut_off = s.unreached_cut_off;
-  unreached_born = s.unreached_born;
-  roots_retained = s.roots_retained;
-  registered_retained = s.registered_retained;
-  doomed_cut_off = s.doomed_cut_off;
-  doomed_born = s.doomed_born;
-  phase = subst (λ (p : Phase). IsPhaseSound p settings.sweep (without_husks store freed)) (sym sweeping) (subst (λ (p : Phase). IsPhaseSound p settings.sweep store) sweeping s.phase);
-  links = s.links;
-  births = record {
-    next_above = s.births.next_above;
-    born = λ x t. s.births.born x (before x t);
-    differ = distinct-less (map (λ (object : Object). object.birth) store.kept) (λ h. not (freed h.0)) (λ h. h.0) store.husks s.births.differ;
-    homes_rise = KeysRise-entries_where (λ x. not (is_freed store freed x)) store.homes s.births.homes_rise;
-    homes_differ = λ x y place e f. s.births.homes_differ x y place (found_where (λ x. not (is_freed store freed x)) store.homes x place e).0
-        (found_where (λ x. not (is_freed store freed x)) store.homes y place f).0;
-    housed = λ x place e. let part = found_where (λ x. not (is_freed store freed x)) store.homes x place e in
-        after x (s.births.housed x place part.0) (not-true (is_freed store freed x) part.1);
-  };
-}
+husks_sound settings store freed sweeping s =
+    sound_but settings store (husks_where store.husks (λ x. not (freed x))) (entries_where (λ x. not (is_freed store freed x)) store.homes) store.visited store.left store.phase
+    (subst (λ (p : Phase). IsPhaseSound p settings.sweep (without_husks store freed)) (sym sweeping) (subst (λ (p : Phase). IsPhaseSound p settings.sweep store) sweeping s.phase))
+    (record {
+      next_above = s.births.next_above;
+      born = λ x t. s.births.born x (before x t);
+      differ = distinct-less (map (λ (object : Object). object.birth) store.kept) (λ h. not (freed h.0)) (λ h. h.0) store.husks s.births.differ;
+      homes_rise = KeysRise-entries_where (λ x. not (is_freed store freed x)) store.homes s.births.homes_rise;
+      homes_differ = λ x y place e f. s.births.homes_differ x y place (found_where (λ x. not (is_freed store freed x)) store.homes x place e).0
+          (found_where (λ x. not (is_freed store freed x)) store.homes y place f).0;
+      housed = λ x place e. let part = found_where (λ x. not (is_freed store freed x)) store.homes x place e in
+          after x (s.births.housed x place part.0) (not-true (is_freed store freed x) part.1);
+    }) s
   where
     before : (x : ℕ) → IsTrue (is_in x (births_in (without_husks store freed))) → IsTrue (is_in x (births_in store))
     before x t = elim (in-either x (map (λ (object : Object). object.birth) store.kept) _ t) [

@@ -10,7 +10,8 @@ use Rattle.object_model.specs.Fields.{refs_of}
 use Rattle.store_model.specs.Sound.{AreKept, AreNoneOf, AreCutOff}
 use Rattle.store_model.specs.Marking.{IsMarked}
 use Rattle.store_model.specs.MarkingOrder.{IsItem, YoungHeld, HeldSettled, IsInOrder, VisitsQueued, RootsQueued, settled_of, Visits}
-use Rattle.store_model.proofs.MarkSets.{referent-item, from-filter}
+use Rattle.store_model.proofs.MarkSets.{from-filter}
+use Rattle.store_model.proofs.FieldChanges.{referent-item}
 use Rattle.std.proofs.lemmas.Bool.{cases_Bool, false≢true}
 use Rattle.object_model.proofs.Members.{and_first}
 use Rattle.store_model.proofs.Rounds.{LeadsTo-least}

@@ -6,7 +6,8 @@ use Rattle.object_model.specs.Object.{Object, object_at}
 use Rattle.store_model.specs.Roots.{referents_in}
 use Rattle.store_model.specs.Sound.{AreKept, AreNoneOf, AreCutOff}
 use Rattle.store_model.specs.MarkingOrder.{IsItem, IsInOrder, is_known, VisitsQueued, RootsQueued, settled_of, Visits, NoVisit, Passed, Visit}
-use Rattle.store_model.proofs.MarkSets.{equal, only, in-one, in-filter, from-filter, item-referent}
+use Rattle.store_model.proofs.MarkSets.{equal, only, in-one, in-filter, from-filter}
+use Rattle.store_model.proofs.FieldChanges.{item-referent}
 use Rattle.std.proofs.lemmas.Bool.{cases_Bool}
 use Rattle.object_model.proofs.Members.{or_cases, or_first, or_second, not_both, in-left, in-right, in-either}
 

@@ -1,6 +1,6 @@
 -- Pins: one more, and one less.
-use Rattle.std.proofs.Common.{◌≡◌, ℕ, zero, suc, ◌+◌, ◌-◌, ◌<◌, ◌≤◌, ◌⊎◌, Bool, IsTrue, nat_eq, List, [], ◌∷◌, ◌++◌, map, length, None, refl, sym, ap, ◌∙◌, subst, inl, inr, arith, append-nil}
-use Rattle.std.specs.Prelude.{IsFalse, nat_lt, if◌then◌else◌}
+use Rattle.std.proofs.Common.{◌≡◌, ℕ, zero, suc, ◌+◌, ◌-◌, ◌<◌, ◌≤◌, ◌⊎◌, Bool, IsTrue, nat_eq, List, [], ◌∷◌, ◌++◌, map, length, None, refl, sym, ap, ◌∙◌, subst, inl, inr, arith, append-nil, false, Option}
+use Rattle.std.specs.Prelude.{IsFalse, nat_lt, if◌then◌else◌, ◌++◌}
 use Rattle.std.specs.List.{IsDistinct, All}
 use Rattle.std.proofs.lemmas.List.{length-append}
 use Rattle.std.proofs.lemmas.List.Elements.{All-cons, All-head, All-tail}
@@ -10,9 +10,15 @@ use Rattle.object_model.specs.Object.{Object, object_at}
 use Rattle.object_model.specs.Sets.{is_in}
 use Rattle.object_model.specs.Fields.{refs_of}
 use Rattle.store_model.specs.Roots.{target_in}
-use Rattle.store_model.specs.Identity.{pin_count, pinned_more, pinned_less, with_count, has_pin_room}
+use Rattle.store_model.specs.Identity.{pin_count, pinned_more, pinned_less, with_count, has_pin_room, can_refer}
 use Rattle.store_model.specs.Sound.{ArePinsSound}
 use Rattle.store_model.proofs.BirthSound.{distinct-insert}
+use Rattle.type_table.specs.declared.info.Shape.{Shape}
+use Rattle.type_table.specs.declared.info.Shape.TheVariants.{Fixed, IntArray, RefArray, Weak}
+use Rattle.type_table.specs.declared.info.TypeInfo.{TypeInfo}
+use Rattle.type_table.specs.Table.{Table}
+use Rattle.object_model.specs.Layout.{layout_of}
+use Rattle.object_model.specs.ObjectWords.{renamed, info_at, layout_at, object_from, target_of}
 
 abbrev pub keys : List (ℕ × ℕ) → List ℕ
 keys pins = map (λ entry. entry.0) pins
@@ -118,3 +124,23 @@ less-in (e ∷ pins) b q t = elim (eqb_tells e.0 b) [
     counted : (k n : ℕ) (es : List (ℕ × ℕ)) → IsTrue (is_in q (keys (with_count k n es))) → IsTrue (is_in q (k ∷ keys es))
     counted k zero es t = is_in-tail q k (keys es) t
     counted k (suc n) es t = t
+
+no-refs : (s : Shape) (p third : ℕ) → can_refer s ≡ false → (layout_of s p third).ref_count ≡ 0
+no-refs (Fixed a b) p third e = grind (arith, nat_tests)
+no-refs IntArray p third e = refl
+no-refs RefArray p third e = absurd (let no : ⊥ = cc in no)
+no-refs Weak p third e = refl
+
+no-target : (s : Shape) (t : Option ℕ) → can_refer s ≡ false → target_of s t ≡ None
+no-target (Fixed a b) t e = refl
+no-target IntArray t e = refl
+no-target RefArray t e = refl
+no-target Weak t e = absurd (let no : ⊥ = cc in no)
+
+pub no-refs-at : (types : Table TypeInfo) (w : ℕ → ℕ) (p : ℕ) → can_refer (info_at types w p).shape ≡ false → (layout_at types w p).ref_count ≡ 0
+unfolding layout_at
+no-refs-at types w p e = no-refs (info_at types w p).shape p (w (p + 2)) e
+
+pub bare-target : (types : Table TypeInfo) (name w : ℕ → ℕ) (p : ℕ) → can_refer (info_at types w p).shape ≡ false → (object_from types name w p).target ≡ None
+unfolding object_from
+bare-target types name w p e = no-target (info_at types w p).shape (renamed name (w (layout_at types w p).ref_start)) e

@@ -1,16 +1,19 @@
 -- What leads to objects changes: pins, slots, structures.
-use Rattle.std.proofs.Common.{◌≡◌, ℕ, IsTrue, List, map, refl, Option, Some, inl, inr}
-use Rattle.std.specs.Prelude.{slice_set, option_and_then}
+use Rattle.std.proofs.Common.{◌≡◌, ℕ, IsTrue, List, map, refl, Option, Some, inl, inr, zero, suc, [], ◌∷◌, None, subst}
+use Rattle.std.specs.Prelude.{slice_set, option_and_then, filter_map}
 use Rattle.object_model.specs.declared.settings.Settings.{Settings}
 use Rattle.store_model.specs.Store.{Store, Struct}
 use Rattle.object_model.specs.Sets.{is_in}
 use Rattle.store_model.specs.Sound.{IsSound, ArePinsSound}
-use Rattle.store_model.specs.Roots.{roots_of}
+use Rattle.store_model.specs.Roots.{roots_of, referents_in}
 use Rattle.store_model.proofs.SoundLaws.{CanBeRoot}
 use Rattle.store_model.proofs.RootLaws.{relieves_none, can_root, RootChange, roots_each, are_roots, Relieves, can_relieved, set-in, not-in}
 use Rattle.type_table.specs.Table.{Table}
 use Rattle.store_model.specs.Structs.{forced_object}
 use Rattle.store_model.proofs.StructLaws.{PutsAt, links_put, forced-put}
+use Rattle.object_model.proofs.Members.{is_in-head, is_in-tail}
+use Rattle.object_model.specs.Object.{Object}
+use Rattle.object_model.specs.Fields.{refs_of, ref_in}
 
 -- The pins of a store change: each pinned object was pinned or is a root.
 pub pins_change : (settings : Settings) (store : Store) (pinned : List (ℕ × ℕ)) → IsSound settings store → ArePinsSound settings.pins store.kept store.settled pinned
@@ -92,3 +95,15 @@ struct_change {settings = settings} {store = store} {after = after} {left = left
       waiting = s.waiting;
       links = links_put p s.links;
     }
+
+ref-in : (refs : List (Option ℕ)) (i y : ℕ) → ref_in refs i ≡ Some y → IsTrue (is_in y (filter_map (λ r. r) refs))
+ref-in [] i y e = absurd (let no : ⊥ = cc in no)
+ref-in (None ∷ refs) zero y e = absurd (let no : ⊥ = cc in no)
+ref-in (Some x ∷ refs) zero y e = let same : x ≡ y = cc in subst (λ (k : ℕ). IsTrue (is_in k (x ∷ filter_map (λ r. r) refs))) same (is_in-head x (filter_map (λ r. r) refs))
+ref-in (None ∷ refs) (suc i) y e = ref-in refs i y e
+ref-in (Some x ∷ refs) (suc i) y e = is_in-tail y x (filter_map (λ r. r) refs) (ref-in refs i y e)
+
+-- a reference of an object that is there is among its references
+pub found-ref : (found : Option Object) (i y : ℕ) → ref_in (refs_of found) i ≡ Some y → IsTrue (is_in y (referents_in found))
+found-ref None i y e = absurd (let no : ⊥ = cc in no)
+found-ref (Some o) i y e = ref-in o.refs i y e

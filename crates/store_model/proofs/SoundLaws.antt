@@ -9,7 +9,8 @@ use Rattle.store_model.specs.Store.{Store}
 use Rattle.object_model.specs.Sets.{is_in}
 use Rattle.object_model.specs.Fields.{refs_of}
 use Rattle.store_model.specs.Roots.{is_kept, referents_in, target_in}
-use Rattle.store_model.specs.Sound.{IsSound, IsPhaseSound, AreCutOff, AreGone}
+use Rattle.type_table.specs.Table.{Table}
+use Rattle.store_model.specs.Sound.{IsSound, IsPhaseSound, AreCutOff, AreGone, AreBirthsSound, births_in}
 
 -- an object that a root may lead to: it is kept, and was found neither unreached nor doomed
 pub record CanBeRoot (kept : List Object) (unreached doomed : List ℕ) (x : ℕ) : Type 0 where
@@ -91,3 +92,29 @@ sound_after settings store after same s =
         housed = λ x place e. subst (λ (bs : List ℕ). IsTrue (is_in x (bs ++ map (λ (husk : ℕ × ℕ). husk.0) store.husks))) (sym same.births) (s.births.housed x place e);
       };
     }
+
+-- A store stays sound where only husks, homes, visits, the steps left and the phase change, if these and the births are sound.
+pub sound_but : (settings : Settings) (store : Store) (husks : List (ℕ × ℕ)) (homes : Table ℕ) (visited : List ℕ) (left : ℕ) (phase : Phase)
+    → IsPhaseSound phase settings.sweep (record store { husks = husks; homes = homes; visited = visited; left = left; phase = phase })
+    → AreBirthsSound store.next (births_in (record store { husks = husks })) homes
+    → IsSound settings store → IsSound settings (record store { husks = husks; homes = homes; visited = visited; left = left; phase = phase })
+sound_but settings store husks homes visited left phase p births s = record {
+  fields = s.fields;
+  settled = s.settled;
+  roots = s.roots;
+  registered = s.registered;
+  pins = s.pins;
+  queues_rise = s.queues_rise;
+  waiting = s.waiting;
+  once = s.once;
+  roots_reached = s.roots_reached;
+  unreached_cut_off = s.unreached_cut_off;
+  unreached_born = s.unreached_born;
+  roots_retained = s.roots_retained;
+  registered_retained = s.registered_retained;
+  doomed_cut_off = s.doomed_cut_off;
+  doomed_born = s.doomed_born;
+  phase = p;
+  links = s.links;
+  births = births;
+}

@@ -1,5 +1,5 @@
 -- What holds of a store between any two commands. Each fact is over just the parts that it names.
-use Rattle.std.specs.Prelude.{◌≡◌, ℕ, ◌+◌, ◌-◌, ◌/◌, ◌<◌, ◌≤◌, true, nat_eq, IsTrue, IsFalse, List, [], ◌++◌, Option, Some, None, map, flat_map, length, option_and_then}
+use Rattle.std.specs.Prelude.{◌≡◌, ◌≢◌, ℕ, ◌+◌, ◌-◌, ◌/◌, ◌<◌, ◌≤◌, true, nat_eq, IsTrue, IsFalse, List, [], ◌∷◌, ◌++◌, Option, Some, None, map, flat_map, length, option_and_then}
 use Rattle.std.specs.List.{IsDistinct, All}
 use Rattle.type_table.specs.Table.{Table, KeysRise, value_at}
 use Rattle.text_model.specs.declared.line.Phase.{Phase}
@@ -127,3 +127,17 @@ pub record IsSound (settings : Settings) (store : Store) : Type 0 where
   pub phase : IsPhaseSound store.phase settings.sweep store
   pub links : AreLinksSound store.kept store.structs store.dead
   pub births : AreBirthsSound store.next (births_in store) store.homes
+
+-- births that rise from a least one on, all before the next one
+abbrev pub RiseBetween : ℕ → List ℕ → ℕ → Type 0
+RiseBetween least [] next = least ≤ next
+RiseBetween least (birth ∷ births) next = (least ≤ birth) × RiseBetween (birth + 1) births next
+
+-- Births rise, husks are there only while they are swept, no queue is empty, and there are as many slots as the settings say.
+pub record IsInForm (roots : ℕ) (store : Store) : Type 0 where
+  pub kept : RiseBetween 1 (map (λ object. object.birth) store.kept) store.next
+  pub husks : RiseBetween 1 (map (λ husk. husk.0) store.husks) store.next
+  pub settled : RiseBetween 1 store.settled store.next
+  pub swept : store.phase ≢ Sweeping → store.husks ≡ []
+  pub no_empty_queue : (queue : ℕ) → value_at store.queues queue ≢ Some []
+  pub slots : length store.slots ≡ roots
