@@ -5,3 +5,5 @@ pub mod Candidates
 pub mod Marks
 pub mod Steps
 pub mod MeetSteps
+pub mod PassSteps
+pub mod Entries

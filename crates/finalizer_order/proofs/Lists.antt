@@ -1,5 +1,5 @@
 -- Lists that loops go along.
-use Rattle.std.proofs.Common.{◌≡◌, ◌≢◌, ℕ, zero, suc, ◌+◌, ◌<◌, Bool, true, false, IsTrue, ◌==◌, ◌⊎◌, List, [], ◌∷◌, ◌++◌, length, get_or, take, nat_eq, refl, sym, ap, ◌∙◌, subst, inl, inr, arith, add-one}
+use Rattle.std.proofs.Common.{◌≡◌, ◌≢◌, ℕ, zero, suc, ◌+◌, ◌<◌, Bool, true, false, IsTrue, ◌==◌, ◌⊎◌, List, [], ◌∷◌, ◌++◌, length, get_or, take, map, nat_eq, refl, sym, ap, ◌∙◌, subst, inl, inr, arith, add-one}
 use Rattle.std.specs.Prelude.{not, ◌||◌}
 use Rattle.std.specs.List.{IsDistinct, AllByRecursion}
 use Rattle.std.proofs.Math.Seq.{take-suc}
@@ -41,6 +41,20 @@ in-one x y t = elim (is_in-cases x y [] t) [ inl e ↦ e | inr u ↦ absurd (is_
 
 pub clash : (b : Bool) → b ≡ true → b ≡ false → ⊥
 clash b t f = cc
+
+pub in-taken : {X : Type 0} → (f : X → ℕ) (xs : List X) (i x : ℕ) → IsTrue (is_in x (map f (take i xs))) → IsTrue (is_in x (map f xs))
+in-taken f [] zero x t = t
+in-taken f [] (suc i) x t = t
+in-taken f (y ∷ xs) zero x t = absurd (is_in-nil x t)
+in-taken f (y ∷ xs) (suc i) x t = elim (is_in-cases x (f y) (map f (take i xs)) t) [
+  | inl e ↦ subst (λ (k : ℕ). IsTrue (is_in k (f y ∷ map f xs))) (sym e) (is_in-head (f y) (map f xs))
+  | inr u ↦ is_in-tail x (f y) (map f xs) (in-taken f xs i x u)
+]
+
+pub in-mapped : {X : Type 0} → (f : X → ℕ) (xs : List X) (i : ℕ) (d : X) → i < length xs → IsTrue (is_in (f (get_or xs i d)) (map f xs))
+in-mapped f [] i d l = absurd (omega (arith, l))
+in-mapped f (y ∷ xs) zero d l = is_in-head (f y) (map f xs)
+in-mapped f (y ∷ xs) (suc i) d l = is_in-tail (f (get_or xs i d)) (f y) (map f xs) (in-mapped f xs i d (omega (arith, l)))
 
 -- Lists in which none stands twice.
 

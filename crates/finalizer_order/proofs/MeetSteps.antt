@@ -178,14 +178,14 @@ get-behind : (xs ys : List ℕ) (k : ℕ) → get_or (xs ++ ys) (length xs + k) 
 get-behind [] ys k = ap (λ (n : ℕ). get_or ys n 0) (omega arith)
 get-behind (x ∷ xs) ys k = ap (λ (n : ℕ). get_or (x ∷ (xs ++ ys)) n 0) (let e : length (x ∷ xs) + k ≡ suc (length xs + k) = omega arith in e) ∙ get-behind xs ys k
 
-pub marks_begin : (flag : Flag) (types : Table TypeInfo) (nursery : ℕ) (old new : Memory) (place : ℕ) (before items : List ℕ) → (nursery < place → IsTrue (has old.blocks place))
+pub marks_begin : (flag : Flag) (types : Table TypeInfo) (nursery : ℕ) (old new : Memory) (place next : ℕ) (before items : List ℕ) → next ≡ length before → (nursery < place → IsTrue (has old.blocks place))
     → items ≡ before ++ met flag nursery (word_at old.blocks) place → new ≡ changed (on flag) (met flag nursery (word_at old.blocks) place) old
-    → MarksSome flag types nursery old new place (length before) before items
-marks_begin flag types nursery old new place before items there listed written = record {
+    → MarksSome flag types nursery old new place next before items
+marks_begin flag types nursery old new place next before items begins there listed written = record {
   more = met flag nursery (word_at old.blocks) place;
   count = 0;
   appended = listed;
-  next_is = omega arith;
+  next_is = omega (arith, begins);
   few = omega arith;
   marks = marks_met flag nursery old new place there written;
   reached = λ q t. subst (Reaches types nursery (word_at old.blocks) place) (sym (met-is flag nursery (word_at old.blocks) place q t).0) (self-reaches place);
