@@ -7,3 +7,5 @@ pub mod Steps
 pub mod MeetSteps
 pub mod PassSteps
 pub mod Entries
+pub mod FlagWords
+pub mod RunSteps

@@ -140,11 +140,11 @@ module _ {m : Memory} {types : Table TypeInfo} {nursery : ℕ} {starts : List �
           subst P (sym (layout-kept p t)) (lies-changed f ps m.blocks p (words_at types (word_at m.blocks) p) ∙ (c.whole p t).whole);
     }
 
-    covers-kept : (p at : ℕ) → IsTrue (is_in p c.places) → Covers types (word_at (changed_at f ps m.blocks)) p at → Covers types (word_at m.blocks) p at
+    pub covers-kept : (p at : ℕ) → IsTrue (is_in p c.places) → Covers types (word_at (changed_at f ps m.blocks)) p at → Covers types (word_at m.blocks) p at
     covers-kept p at t h = (h.0, let e = ap (λ (l : Layout). l.words) (layout-kept p t) in let r = h.1 in omega (arith, e, r))
 
     -- so objects are whole, also from other starts among them
-    pub whole-kept : (more : List ℕ) → ((p : ℕ) → IsTrue (is_in p more) → nursery < p → IsTrue (is_in p c.places)) → AreWhole (changed f ps m) types nursery more
+    unfoldable pub whole-kept : (more : List ℕ) → ((p : ℕ) → IsTrue (is_in p more) → nursery < p → IsTrue (is_in p c.places)) → AreWhole (changed f ps m) types nursery more
     whole-kept more started = record {
       places = c.places;
       whole = object-kept;
