@@ -1,0 +1,11 @@
+pub mod Changes
+pub mod Objects
+pub mod Lists
+pub mod Candidates
+pub mod Marks
+pub mod Steps
+pub mod MeetSteps
+pub mod PassSteps
+pub mod Entries
+pub mod FlagWords
+pub mod RunSteps
