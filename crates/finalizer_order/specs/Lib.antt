@@ -1,0 +1,3 @@
+pub mod Finalizers
+pub mod Queues
+pub mod Listed
