@@ -35,6 +35,17 @@ abbrev pub OfParts : Option HeapParts → (HeapParts → Type 0) → Type 0
 OfParts None P = ⊥
 OfParts (Some parts) P = P parts
 
+-- The parts do the command, with these lines: settings and types stay, and for each store that they stood for there is one that
+-- the command may leave with these lines, and that they stand for now.
+pub record PartsDo (old new : HeapParts) (command : Command) (lines : List Line) : Type 0 where
+  pub setup : new.setup ≡ old.setup
+  pub does : (store : Store) → PartsStandFor old store → (later : Store) × Does old.setup store command lines later × PartsStandFor new later
+
+-- Settings and types stay, and the parts stand for each store that they stood for.
+pub record PartsKeep (old new : HeapParts) : Type 0 where
+  pub setup : new.setup ≡ old.setup
+  pub stands : (store : Store) → PartsStandFor old store → PartsStandFor new store
+
 -- the heap was started, is not spent, and stands for some store
 abbrev pub IsStanding : HeapSeen → Type 0
 IsStanding heap = OfParts heap.parts AreStanding

@@ -1,12 +1,11 @@
-//! The heap of a script: objects in words, and root slots that lead to them.
+//! The heap of a script: objects in words, and root slots that lead to them. A file for each family of calls.
 #![tactic(auto)]
 
 mod fault;
+mod fields;
 mod heap;
-mod parts;
+mod slots;
+mod tellers;
 
 pub use fault::HeapFault;
 pub use heap::Heap;
-
-#[cfg(test)]
-mod tests;

@@ -10,6 +10,7 @@ use nursery_gaps::Nursery;
 use object_model::Settings;
 use old_space::Old;
 use rawref_links::Links;
+use remember_cards::Remember;
 use shadow_ids::Shadows;
 use std::alloc::{AllocError, Global};
 use std::marker::Model;
@@ -29,6 +30,8 @@ pub struct Parts {
     pub old_blocks: Old,
     /// The homes that are reserved for objects of the nursery.
     pub shadows: Shadows,
+    /// The items that the next minor collection must look at.
+    pub remember: Remember,
     pub weaks: Weaks,
     pub links: Links,
     /// What is still to be visited in this marking.
@@ -58,7 +61,7 @@ impl Model for Parts {
     ghost use Rattle.std.specs.Prelude.{[]};
     ghost use Rattle.std.specs.Coded.{codes};
     ghost use Rattle.heap_parts.specs.Code.{old_code, homes_code};
-    ghost use Rattle.heap_parts.specs.Remembered.{nothing_held};
+    ghost use Rattle.remember_cards.specs.Remembering.{remembered_by};
     ghost use Rattle.heap_parts.specs.Parts.{HeapParts};
 
     ghost Value = { HeapParts };
@@ -70,7 +73,7 @@ impl Model for Parts {
       memory = p.space;
       nursery = p.nursery;
       old_blocks = p.old_blocks;
-      remembered = nothing_held p.settings.card;
+      remembered = remembered_by p.remember;
       shadows = p.shadows;
       weaks = p.weaks;
       registered = [];
@@ -104,6 +107,7 @@ impl Parts {
             nursery: Nursery::new(alloc, settings.nursery, settings.pins)?,
             old_blocks: Old::new(alloc, settings)?,
             shadows: Shadows::new(alloc)?,
+            remember: Remember::new(alloc, settings.card)?,
             weaks: Weaks::new(alloc)?,
             links: Links::new(alloc)?,
             gray: Gray::new(alloc)?,

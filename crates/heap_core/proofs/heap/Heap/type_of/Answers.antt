@@ -1,11 +1,11 @@
 use Rattle.std.proofs.Common.{◌≡◌, ℕ, sym, subst}
 use Rattle.std.specs.Prelude.{IsSome, IsSomeAnd}
 use Rattle.store_model.specs.Slots.{object_in}
+use Rattle.heap_parts.specs.Parts.{word_in, place_in}
 use Rattle.heap_core.specs.declared.heap.State.TheVariants.{Started}
-use Rattle.heap_core.specs.Parts.{HeapSeen}
-use Rattle.heap_core.specs.Told.{word_in, place_in}
+use Rattle.heap_core.specs.Heap.{HeapSeen}
 use Rattle.heap_core.specs.Commands.{told_by}
-use Rattle.heap_core.proofs.Commands.{full-of, type_is}
+use Rattle.heap_core.proofs.TellerLaws.{full-of, type_is}
 use Rattle.heap_core.proofs.Calls.{in_state, stands_of}
 use Rattle.heap_core.proofs.heap.Heap.type_of.Goals as goal
 
