@@ -1,17 +1,16 @@
 -- An item of a settled object is remembered, and then written.
-use Rattle.std.proofs.Common.{◌≡◌, ◌≢◌, ℕ, ◌<◌, ◌≤◌, ◌%◌, Bool, true, false, IsTrue, List, [], ◌∷◌, Option, Some, refl, sym, ap, ◌∙◌, subst, inl, inr, arith}
+use Rattle.std.proofs.Common.{◌≡◌, ◌≢◌, ℕ, ◌<◌, ◌≤◌, ◌%◌, Bool, true, false, IsTrue, List, [], ◌∷◌, Option, refl, sym, ap, ◌∙◌, subst, inl, inr, arith}
 use Rattle.std.specs.Prelude.{not, ◌==◌, ◌&&◌}
 use Rattle.std.specs.List.{list_any}
 use Rattle.std.proofs.lemmas.Bool.{cases_Bool, eq-eqb}
 use Rattle.std.proofs.lemmas.Bool.Decides.{eqb_tells, nat_tests}
-use Rattle.heap_space.proofs.Blocks.{lies-with_word}
 use Rattle.object_header.specs.Words.{IsHeader, has_flag, with_flag, without_flag}
 use Rattle.object_header.specs.declared.flags.Flag.{Flag}
 use Rattle.object_header.specs.declared.flags.Flag.TheVariants.{Track, Visited, HasShadow, Pinned, HasCards, CardsSet, Free, Shadow, Order1, Order2}
 use Rattle.object_header.proofs.WordLaws.{has_flag-with_flag_other, has_flag-without_flag_other, type_of-with_flag, type_of-without_flag, IsHeader-with_flag, IsHeader-without_flag}
 use Rattle.object_model.specs.Layout.{Layout}
 use Rattle.object_model.specs.Sets.{is_in}
-use Rattle.object_model.specs.ObjectWords.{renamed, layout_at, words_at}
+use Rattle.object_model.specs.ObjectWords.{layout_at, words_at}
 use Rattle.object_view.proofs.LayoutLaws.{laid_out}
 use Rattle.object_view.proofs.SpaceLaws.{lies-at}
 use Rattle.remember_cards.specs.Remembered.{Held, holds_item, is_held_of}

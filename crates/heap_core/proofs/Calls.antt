@@ -1,16 +1,18 @@
 -- A call of a heap by what its state is: closed, started or spent.
-use Rattle.std.proofs.Common.{◌≡◌, ◌⊎◌, Bool, true, false, List, ◌++◌, Option, Some, None, refl, sym, ap, ◌∙◌, subst, inl, inr}
-use Rattle.std.specs.Prelude.{IsSome}
+use Rattle.std.proofs.Common.{◌≡◌, ◌⊎◌, List, ◌++◌, Some, refl, sym, ap, ◌∙◌, subst, inl, inr}
 use Rattle.text_model.specs.declared.command.Command.{Command}
 use Rattle.text_model.specs.declared.line.Line.{Line}
 use Rattle.store_model.specs.Store.{Store}
+use Rattle.store_model.specs.Look.{look}
+use Rattle.store_model.specs.Unbuilt.{room_of}
 use Rattle.heap_parts.specs.Parts.{HeapParts}
 use Rattle.heap_parts.specs.StandsFor.{PartsStandFor}
 use Rattle.heap_core.specs.declared.heap.State.{State}
 use Rattle.heap_core.specs.declared.heap.State.TheVariants.{Closed, Spent}
 use Rattle.heap_core.specs.Heap.{HeapSeen, heap_of, spent_heap, StandsFor}
 use Rattle.heap_core.specs.Seen.{seen}
-use Rattle.heap_core.specs.Commands.{AreStanding, AreReady, IsStanding, CanDo, PartsDo, PartsKeep, Performs, Keeps}
+use Rattle.heap_core.specs.Commands.{AreStanding, AreReady, IsStanding, CanDo, PartsDo, PartsKeep, Performs, Keeps, told_by, room_by}
+use Rattle.heap_core.proofs.LookLaws.{look_told, room_is}
 
 -- what is seen of a heap in a state
 pub in_state : (now : HeapSeen) (inside state : State) → seen inside ≡ now → inside ≡ state → now ≡ seen state
@@ -69,3 +71,12 @@ keeps_started now new parts after is becomes kept =
 -- and so does a heap that does not change
 pub keeps_same : (now new : HeapSeen) → new ≡ now → Keeps now new
 keeps_same now new is = subst (λ (h : HeapSeen). Keeps now h) (sym is) (record { setup = refl; same_spent = refl; stands = λ store s. s })
+
+-- a look at a store that a heap stands for sees what the heap tells
+pub look_by : (now : HeapSeen) (parts : HeapParts) → now ≡ heap_of parts → (store : Store) → StandsFor now store → look store ≡ told_by now
+look_by now parts is store stands =
+    look_told parts store (stands_of now parts store is stands) ∙ sym (ap (λ (h : HeapSeen). told_by h) is)
+
+pub room_seen : (now : HeapSeen) (parts : HeapParts) → now ≡ heap_of parts → (store : Store) → StandsFor now store → room_of store ≡ room_by now
+room_seen now parts is store stands =
+    room_is parts store (stands_of now parts store is stands) ∙ sym (ap (λ (h : HeapSeen). room_by h) is)

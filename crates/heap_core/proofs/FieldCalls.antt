@@ -1,8 +1,7 @@
 -- What calls on the fields of objects do.
-use Rattle.std.proofs.Common.{◌≡◌, ℕ, List, [], ◌∷◌, Option, refl, sym, ap, ◌∙◌}
+use Rattle.std.proofs.Common.{◌≡◌, ℕ, [], ◌∷◌, Option, refl, sym, ap, ◌∙◌}
 use Rattle.std.specs.Prelude.{slice_index}
 use Rattle.text_model.specs.declared.command.Command.TheVariants.{Put, Get}
-use Rattle.text_model.specs.declared.line.Line.{Line}
 use Rattle.text_model.specs.declared.line.Line.TheVariants.{Got}
 use Rattle.object_model.specs.Object.{Object}
 use Rattle.object_model.specs.Fields.{ints_of}

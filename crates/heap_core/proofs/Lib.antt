@@ -4,3 +4,4 @@ pub mod FieldCalls
 pub mod SlotCalls
 pub mod BarrierCalls
 pub mod TellerLaws
+pub mod LookLaws

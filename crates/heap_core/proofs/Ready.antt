@@ -1,11 +1,10 @@
 -- What is known of the parts of a heap where a command is not refused.
-use Rattle.std.proofs.Common.{◌≡◌, ◌≢◌, ℕ, ◌<◌, Bool, true, false, cond, ◌++◌, length, Option, Some, None, refl, subst, arith}
+use Rattle.std.proofs.Common.{◌≡◌, ◌≢◌, ℕ, ◌<◌, Bool, true, false, cond, [], ◌∷◌, ◌++◌, length, Option, Some, None, refl, subst, inl, inr, arith}
 use Rattle.std.specs.Prelude.{not, nat_le, ◌≤◌, ◌||◌}
 use Rattle.std.proofs.lemmas.Bool.{leb-false, ltb-false}
 use Rattle.std.proofs.lemmas.Bool.Decides.{eqb_tells}
 use Rattle.type_table.specs.declared.info.TypeInfo.{TypeInfo}
 use Rattle.type_table.specs.Table.{Table}
-use Rattle.text_model.specs.declared.command.Command.{Command}
 use Rattle.text_model.specs.declared.command.Command.TheVariants.{Put, Get, Link, Load, MoveRoot, DropRoot}
 use Rattle.text_model.specs.declared.item.Reason.{Reason}
 use Rattle.text_model.specs.declared.item.Reason.TheVariants.{NoRoot, WrongShape, NoItem, NotBuilt, Range}
@@ -45,6 +44,10 @@ kind-some types word place k e = elim (eqb_tells place 0) [
   | inl is ↦ absurd (let none : kind_at types word place ≡ None = rw is.0 refl in let no : ⊥ = cc in no)
   | inr is ↦ (is.1, let some : kind_at types word place ≡ Some (kind_from types word place) = rw is.0 refl in let same : k ≡ kind_from types word place = cc in same)
 ]
+
+-- behind the checks of a command that bears no object
+abbrev pub no_birth : Checks
+no_birth = (false, NotBuilt) ∷ []
 
 -- The object in a slot can be used, and has such a whole number.
 pub record HasInt (heap : HeapParts) (root item : ℕ) : Type 0 where
@@ -100,24 +103,24 @@ one_slot roots root above unbuilt rest e =
 pub put_ready : (heap : HeapParts) (root item value : ℕ) → AreReady heap (Put root item value) → HasInt heap root item
 put_ready heap root item value ready =
     let one = one_slot heap.setup.settings.roots root (is_above (Put root item value)) false _ ready.accepted in
-    has_int heap root item _ ready.standing one.0 one.1
+    has_int heap root item no_birth ready.standing one.0 one.1
 
 pub get_ready : (heap : HeapParts) (root item : ℕ) → AreReady heap (Get root item) → HasInt heap root item
 get_ready heap root item ready =
     let one = one_slot heap.setup.settings.roots root (is_above (Get root item)) false _ ready.accepted in
-    has_int heap root item _ ready.standing one.0 one.1
+    has_int heap root item no_birth ready.standing one.0 one.1
 
 pub link_ready : (heap : HeapParts) (root item from : ℕ) → AreReady heap (Link root item from) → HasRef heap root item
 link_ready heap root item from ready =
     let one = one_slot heap.setup.settings.roots root (is_above (Link root item from)) false _ ready.accepted in
     let two = passed (nat_le heap.setup.settings.roots from) NoRoot _ one.1 in
-    has_ref heap root item _ ready.standing one.0 two.1
+    has_ref heap root item no_birth ready.standing one.0 two.1
 
 pub load_ready : (heap : HeapParts) (to root item : ℕ) → AreReady heap (Load to root item) → (to < length heap.slots) × HasRef heap root item
 load_ready heap to root item ready =
     let one = one_slot heap.setup.settings.roots to (is_above (Load to root item)) false _ ready.accepted in
     let two = passed (nat_le heap.setup.settings.roots root) NoRoot _ one.1 in
-    (slot_in heap to ready.standing one.0, has_ref heap root item _ ready.standing (leb-false heap.setup.settings.roots root two.0) two.1)
+    (slot_in heap to ready.standing one.0, has_ref heap root item no_birth ready.standing (leb-false heap.setup.settings.roots root two.0) two.1)
 
 pub move_ready : (heap : HeapParts) (to from : ℕ) → AreReady heap (MoveRoot to from) → to < length heap.slots
 move_ready heap to from ready =

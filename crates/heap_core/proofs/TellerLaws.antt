@@ -1,6 +1,6 @@
 -- What is told of a heap is what a look at its stores sees.
-use Rattle.std.proofs.Common.{◌≡◌, ◌≢◌, ℕ, ◌+◌, ◌^◌, ◌<◌, ◌≤◌, Option, Some, None, sym, subst, arith}
-use Rattle.std.specs.Prelude.{IsSome, IsSomeAnd}
+use Rattle.std.proofs.Common.{◌≡◌, ◌≢◌, ℕ, zero, suc, ◌+◌, ◌^◌, ◌<◌, ◌≤◌, List, [], ◌∷◌, length, Option, None, refl, sym, subst, arith}
+use Rattle.std.specs.Prelude.{IsSome, IsSomeAnd, slice_index_or}
 use Rattle.std.proofs.lemmas.Bool.{eq-eqb}
 use Rattle.type_table.specs.declared.info.TypeInfo.{TypeInfo}
 use Rattle.type_table.specs.Table.{Table}
@@ -28,6 +28,14 @@ full-of types word place some e =
 pub whole_in : (heap : HeapParts) (root : ℕ) → AreStanding heap → place_in heap root ≢ 0 → HasObject heap.memory heap.setup.types (place_in heap root)
 whole_in heap root standing full =
     let s = standing.stands in s.words.whole (place_in heap root) (in_slot heap standing.store root s full).there
+
+full-slot : (slots : List ℕ) (root : ℕ) → slice_index_or slots root 0 ≢ 0 → root < length slots
+full-slot [] root ne = absurd (ne refl)
+full-slot (p ∷ slots) zero ne = omega arith
+full-slot (p ∷ slots) (suc root) ne = let l = full-slot slots root ne in omega (arith, l)
+
+pub object_in_full : (heap : HeapParts) (root : ℕ) → AreStanding heap → place_in heap root ≢ 0 → HasObjectIn heap root
+object_in_full heap root standing full = record { slot = full-slot heap.slots root full; object = whole_in heap root standing full }
 
 -- the type id of the object in a slot
 pub type_is : (heap : HeapParts) (store : Store) (root : ℕ) → PartsStandFor heap store → place_in heap root ≢ 0

@@ -1,9 +1,8 @@
 -- What the calls of a heap ask, and what they do to each store that the heap stands for.
-use Rattle.std.specs.Prelude.{◌≡◌, ℕ, Bool, true, false, List, ◌++◌, Option, Some, None, option_map, Result, Ok, Err, ◌⊎◌}
+use Rattle.std.specs.Prelude.{◌≡◌, ℕ, Bool, true, false, List, ◌++◌, Option, Some, None, option_map, Result, Ok, Err}
 use Rattle.type_table.specs.declared.info.TypeInfo.{TypeInfo}
 use Rattle.type_table.specs.Table.{Table, value_at}
 use Rattle.text_model.specs.declared.command.Command.{Command}
-use Rattle.text_model.specs.declared.command.Command.TheVariants.{NewFixed, NewArray}
 use Rattle.text_model.specs.declared.line.Line.{Line}
 use Rattle.object_model.specs.declared.settings.Settings.{Settings}
 use Rattle.object_model.specs.declared.structure.StructState.TheVariants.{Absent}

@@ -2,6 +2,8 @@
 ghost use Rattle.std.specs.Prelude.{◌≡◌, ◌≤◌, IsSome, IsSomeAnd, is_some};
 ghost use Rattle.store_model.specs.Store.{Store};
 ghost use Rattle.store_model.specs.Slots.{object_in};
+ghost use Rattle.store_model.specs.Look.{look};
+ghost use Rattle.store_model.specs.Unbuilt.{room_of};
 ghost use Rattle.heap_parts.specs.Told.{items_of};
 ghost use Rattle.heap_core.specs.Heap.{StandsFor};
 ghost use Rattle.heap_core.specs.Commands.{OfParts, IsStanding, type_found, told_by, room_by};
@@ -25,6 +27,7 @@ impl Heap {
     pub fn counted_words(&self) -> u64
         requires { IsStanding self.now }
         ensures value { result ≡ (room_by self.now).counted }
+        ensures room { (store : Store) → StandsFor self.now store → room_of store ≡ room_by self.now }
         ensures limit { OfParts self.now.parts (λ parts. result ≤ parts.setup.settings.limit) }
     {
         match &self.state {
@@ -60,7 +63,8 @@ impl Heap {
     /// The shape of the object in a slot and its numbers of items, None where the slot is empty or not there.
     pub fn kind_in(&self, root: u32) -> Option<Kind>
         requires { IsStanding self.now }
-        ensures { result ≡ (told_by self.now).kind root }
+        ensures value { result ≡ (told_by self.now).kind root }
+        ensures look { (store : Store) → StandsFor self.now store → look store ≡ told_by self.now }
     {
         match &self.state {
             State::Started(parts) => parts.kind(root),

@@ -3,7 +3,7 @@ use Rattle.heap_core.specs.declared.heap.State.TheVariants.{Started}
 use Rattle.heap_core.specs.Heap.{HeapSeen}
 use Rattle.heap_core.specs.Commands.{OfParts}
 use Rattle.heap_core.proofs.TellerLaws.{counted_fits, counted_small}
-use Rattle.heap_core.proofs.Calls.{in_state, standing_of}
+use Rattle.heap_core.proofs.Calls.{in_state, standing_of, room_seen}
 use Rattle.heap_core.proofs.heap.Heap.counted_words.Goals as goal
 
 pub counted_words-requires : goal.counted_words-requires
@@ -19,3 +19,8 @@ returns-in-Started-clause-limit c =
     let fits = counted_fits parts (standing_of c.args.self.now parts now c.requires) in
     subst (λ (h : HeapSeen). OfParts h.parts (λ found. c.counted_words.result ≤ found.setup.settings.limit)) (sym now)
     (subst (λ (n : ℕ). n ≤ parts.setup.settings.limit) (sym c.counted_words.ensures) fits)
+
+pub returns-in-Started-clause-room : goal.returns-in-Started-clause-room
+returns-in-Started-clause-room c = λ store s.
+    let parts = c.in-Started.parts in
+    room_seen c.args.self.now parts (in_state c.args.self.now c.self.inside.state (Started parts) c.self.view_is c.in-Started.is) store s

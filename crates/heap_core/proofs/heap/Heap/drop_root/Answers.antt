@@ -1,4 +1,4 @@
-use Rattle.std.proofs.Common.{[], ◌∷◌, ap}
+use Rattle.std.proofs.Common.{[], ap}
 use Rattle.text_model.specs.declared.command.Command.TheVariants.{DropRoot}
 use Rattle.heap_core.specs.Seen.{seen}
 use Rattle.heap_core.specs.declared.heap.Heap.TheInside.{Inside}

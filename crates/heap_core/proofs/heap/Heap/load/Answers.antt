@@ -4,7 +4,7 @@ use Rattle.text_model.specs.declared.line.Line.TheVariants.{Loaded}
 use Rattle.heap_core.specs.Seen.{seen}
 use Rattle.heap_core.specs.declared.heap.Heap.TheInside.{Inside}
 use Rattle.heap_core.specs.declared.heap.State.TheVariants.{Started}
-use Rattle.heap_core.proofs.Calls.{in_state, performs_started, performs_idle}
+use Rattle.heap_core.proofs.Calls.{in_state, performs_started}
 use Rattle.heap_core.proofs.heap.Heap.load.Goals as goal
 use Rattle.heap_core.proofs.heap.Heap.load.Goals.{in-Started, in-Closed, in-Closed-2}
 
