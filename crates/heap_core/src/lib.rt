@@ -5,7 +5,9 @@ mod fault;
 mod fields;
 mod heap;
 mod slots;
+mod structures;
 mod tellers;
 
 pub use fault::HeapFault;
 pub use heap::Heap;
+pub use rawref_links::Dec;
