@@ -1,9 +1,8 @@
 -- What the calls of a heap ask, and what they do to each store that the heap stands for.
-use Rattle.std.specs.Prelude.{◌≡◌, ℕ, Bool, true, false, List, ◌++◌, Option, Some, None, option_map, Result, Ok, Err, ◌⊎◌}
+use Rattle.std.specs.Prelude.{◌≡◌, ℕ, Bool, true, false, List, ◌++◌, Option, Some, None, option_map, Result, Ok, Err}
 use Rattle.type_table.specs.declared.info.TypeInfo.{TypeInfo}
 use Rattle.type_table.specs.Table.{Table, value_at}
 use Rattle.text_model.specs.declared.command.Command.{Command}
-use Rattle.text_model.specs.declared.command.Command.TheVariants.{NewFixed, NewArray}
 use Rattle.text_model.specs.declared.line.Line.{Line}
 use Rattle.object_model.specs.declared.settings.Settings.{Settings}
 use Rattle.object_model.specs.declared.structure.StructState.TheVariants.{Absent}
@@ -34,6 +33,17 @@ pub record AreReady (parts : HeapParts) (command : Command) : Type 0 where
 abbrev pub OfParts : Option HeapParts → (HeapParts → Type 0) → Type 0
 OfParts None P = ⊥
 OfParts (Some parts) P = P parts
+
+-- The parts do the command, with these lines: settings and types stay, and for each store that they stood for there is one that
+-- the command may leave with these lines, and that they stand for now.
+pub record PartsDo (old new : HeapParts) (command : Command) (lines : List Line) : Type 0 where
+  pub setup : new.setup ≡ old.setup
+  pub does : (store : Store) → PartsStandFor old store → (later : Store) × Does old.setup store command lines later × PartsStandFor new later
+
+-- Settings and types stay, and the parts stand for each store that they stood for.
+pub record PartsKeep (old new : HeapParts) : Type 0 where
+  pub setup : new.setup ≡ old.setup
+  pub stands : (store : Store) → PartsStandFor old store → PartsStandFor new store
 
 -- the heap was started, is not spent, and stands for some store
 abbrev pub IsStanding : HeapSeen → Type 0

@@ -13,6 +13,13 @@ pub enum HeapFault {
     Spent,
     #[error("out of memory")]
     OutOfMemory,
+    /// A birth would exceed the heap limit: so many words are counted, and so many were asked for.
+    #[error("heap limit: {counted} + {request} > {limit}")]
+    HeapLimit {
+        counted: u64,
+        request: u64,
+        limit: u64,
+    },
 }
 
 impl From<AllocError> for HeapFault {

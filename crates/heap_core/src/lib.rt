@@ -1,12 +1,13 @@
-//! The heap of a script: objects in words, and root slots that lead to them.
+//! The heap of a script: objects in words, and root slots that lead to them. A file for each family of calls.
 #![tactic(auto)]
 
 mod fault;
+mod fields;
 mod heap;
-mod parts;
+mod slots;
+mod structures;
+mod tellers;
 
 pub use fault::HeapFault;
 pub use heap::Heap;
-
-#[cfg(test)]
-mod tests;
+pub use rawref_links::Dec;

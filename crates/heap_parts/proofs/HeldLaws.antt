@@ -7,7 +7,7 @@ use Rattle.std.proofs.lemmas.Bool.Decides.{eqb_tells}
 use Rattle.object_model.proofs.Members.{is_in-head, is_in-tail, is_in-cases, or_cases, or_first, or_second, is_in-named}
 use Rattle.object_model.specs.Sets.{is_in}
 use Rattle.store_model.specs.MarkingOrder.{HeldSettled}
-use Rattle.heap_parts.specs.Remembered.{Held, Remembered, held_whole, hold_whole, with_whole, held_places, is_held_whole, has_held_cards, is_held_of, holds_item, has_any}
+use Rattle.remember_cards.specs.Remembered.{Held, Remembered, held_whole, hold_whole, with_whole, held_places, is_held_whole, has_held_cards, is_held_of, holds_item, has_any}
 use Rattle.heap_parts.specs.Places.{AreAmong}
 
 any-same : (f : Held → Bool) (hs : List Held) (p : ℕ) → f (held_whole p) ≡ false → ((h : Held) → h.place ≡ p → f (record h { is_whole = true }) ≡ f h)

@@ -1,11 +1,12 @@
 -- What plain calls make of the parts of a heap.
-use Rattle.std.specs.Prelude.{ℕ, ◌+◌, slice_set}
+use Rattle.std.specs.Prelude.{ℕ, ◌+◌, ◌<◌, ◌==◌, if◌then◌else◌, length, slice_set, Option, Some, None}
 use Rattle.heap_space.specs.Places.{with_word}
+use Rattle.object_view.specs.Views.{HasObject}
 use Rattle.object_model.specs.Layout.{Layout}
 use Rattle.object_model.specs.ObjectWords.{layout_at}
 use Rattle.object_header.specs.Words.{without_flag}
 use Rattle.object_header.specs.declared.flags.Flag.TheVariants.{Track}
-use Rattle.heap_parts.specs.Remembered.{with_whole}
+use Rattle.remember_cards.specs.Remembered.{with_whole}
 use Rattle.heap_parts.specs.Parts.{HeapParts, word_in, place_in}
 
 -- where the parts of the object in a slot lie
@@ -34,3 +35,12 @@ with_barrier heap place = record heap {
   memory = record heap.memory { blocks = with_word heap.memory.blocks place (without_flag (word_in heap place) Track) };
   remembered = with_whole heap.remembered place;
 }
+
+-- the birth of the object at a place, None where it is 0
+abbrev pub birth_read : (ℕ → ℕ) → ℕ → Option ℕ
+birth_read word place = if place == 0 then None else Some (word (place + 1))
+
+-- a slot leads to a whole object
+pub record HasObjectIn (heap : HeapParts) (root : ℕ) : Type 0 where
+  pub slot : root < length heap.slots
+  pub object : HasObject heap.memory heap.setup.types (place_in heap root)
