@@ -21,7 +21,7 @@ use Rattle.store_model.specs.Slots.{held}
 use Rattle.store_model.specs.Steps.{ref_at, put_ref}
 use Rattle.store_model.specs.PlainCommands.{copy_refs}
 use Rattle.store_model.proofs.CopyLaws.{copy-none, copy-on, copy-back, refs_in_slot}
-use Rattle.heap_parts.specs.Remembered.{Held, holds_item, is_held, is_held_of}
+use Rattle.remember_cards.specs.Remembered.{Held, holds_item, is_held, is_held_of}
 use Rattle.heap_parts.specs.Parts.{HeapParts, word_in, place_in}
 use Rattle.heap_parts.specs.Places.{is_young}
 use Rattle.heap_parts.specs.StandsFor.{PartsStandFor}

@@ -4,7 +4,7 @@ use Rattle.store_model.specs.EndOfRun.{IsRefused}
 use Rattle.replay_top.specs.declared.line.Stop.{Stop}
 use Rattle.replay_top.specs.declared.line.Stop.TheVariants.{Malformed, OutOfMemory, ReadFault, WriteFault}
 use Rattle.replay_top.specs.declared.top.Status.{Status}
-use Rattle.heap_core.specs.Parts.{HeapSeen}
+use Rattle.heap_core.specs.Heap.{HeapSeen}
 use Rattle.replay_top.specs.Run.{EndsRun}
 use Rattle.replay_top.specs.Top.{IsComplete, stop_status}
 

@@ -18,7 +18,7 @@ use Rattle.text_model.specs.Text.{line_text, lines_text, IsProper}
 use Rattle.store_model.proofs.Proper.{ItemDoes-proper}
 use Rattle.store_model.specs.EndOfRun.{IsRefused}
 use Rattle.session_core.specs.Seen.{SessionSeen}
-use Rattle.heap_core.specs.Parts.{HeapSeen}
+use Rattle.heap_core.specs.Heap.{HeapSeen}
 use Rattle.session_core.specs.Standing.{DoesItem, Answers}
 use Rattle.replay_top.specs.Written.{WritesPart}
 use Rattle.replay_top.specs.Lines.{DoesLine, CutsLine, EndsLine, stop_of}

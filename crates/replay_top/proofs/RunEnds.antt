@@ -17,8 +17,8 @@ use Rattle.store_model.specs.EndOfRun.{IsRefused, TakesLine, Stands, StopsAt}
 use Rattle.session_core.specs.Seen.{SessionSeen}
 use Rattle.replay_top.specs.declared.line.Stop.{Stop}
 use Rattle.replay_top.specs.declared.line.Stop.TheVariants.{Malformed, OutOfMemory, ReadFault, WriteFault}
-use Rattle.heap_core.specs.Parts.{HeapSeen, closed_heap}
-use Rattle.heap_core.specs.StandsFor.{StandsFor}
+use Rattle.heap_core.specs.Heap.{HeapSeen, closed_heap}
+use Rattle.heap_core.specs.Heap.{StandsFor}
 use Rattle.replay_top.specs.Lines.{EndsLine}
 use Rattle.replay_top.specs.Run.{EndsRun, stop_of_reader}
 use Rattle.replay_top.proofs.DoneLaws.{IsDone-none}

@@ -9,7 +9,7 @@ use Rattle.replay_top.specs.declared.line.Stop.TheVariants.{Malformed, OutOfMemo
 use Rattle.session_core.specs.declared.session.RunFault.{RunFault}
 use Rattle.session_core.specs.declared.session.RunFault.TheVariants.{Malformed as MalformedItem, OutOfMemory as NoMemory}
 use Rattle.session_core.specs.Seen.{SessionSeen}
-use Rattle.heap_core.specs.Parts.{HeapSeen}
+use Rattle.heap_core.specs.Heap.{HeapSeen}
 use Rattle.session_core.specs.Standing.{StandsAt}
 use Rattle.replay_top.specs.Written.{WritesPart}
 

@@ -8,8 +8,8 @@ use Rattle.text_model.specs.Lines.{lines_of}
 use Rattle.store_model.specs.EndOfRun.{Stands, StopsAt, StopsReading, StopsWriting, StopsSomewhere}
 use Rattle.replay_top.specs.declared.line.Stop.{Stop}
 use Rattle.replay_top.specs.declared.line.Stop.TheVariants.{Malformed, OutOfMemory, ReadFault, WriteFault}
-use Rattle.heap_core.specs.Parts.{HeapSeen}
-use Rattle.heap_core.specs.StandsFor.{StandsFor}
+use Rattle.heap_core.specs.Heap.{HeapSeen}
+use Rattle.heap_core.specs.Heap.{StandsFor}
 
 -- how a run stops where line k is not read
 abbrev pub stop_of_reader : ℕ → ReadEnd → Stop

@@ -8,7 +8,7 @@ use Rattle.replay_top.specs.declared.line.Stop.{Stop}
 use Rattle.replay_top.specs.declared.line.Stop.TheVariants as stops
 use Rattle.replay_top.specs.declared.top.Status.{Status}
 use Rattle.replay_top.specs.declared.top.Status.TheVariants as statuses
-use Rattle.heap_core.specs.Parts.{HeapSeen}
+use Rattle.heap_core.specs.Heap.{HeapSeen}
 use Rattle.replay_top.specs.Written.{WritesPart}
 use Rattle.replay_top.specs.Run.{EndsRun}
 

@@ -1,7 +1,7 @@
 //! A whole script, from its first line on.
 ghost use Rattle.std.specs.Prelude.{◌≡◌, ◌≤◌, IsTrue, IsErrOf};
 ghost use Rattle.heap_io.specs.Causes.{Rose};
-ghost use Rattle.heap_core.specs.Parts.{closed_heap};
+ghost use Rattle.heap_core.specs.Heap.{closed_heap};
 ghost use Rattle.replay_top.specs.Run.{EndsRun, stop_of_reader};
 
 use crate::line::{Stop, do_line};

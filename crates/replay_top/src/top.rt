@@ -4,7 +4,7 @@ ghost use Rattle.std.specs.Option.{ForSome};
 ghost use Rattle.std.specs.Io.KnownBytes.{Keeps};
 ghost use Rattle.heap_io.specs.Causes.{Rose};
 ghost use Rattle.store_model.specs.ErrorText.{usage_text};
-ghost use Rattle.heap_core.specs.Parts.{closed_heap};
+ghost use Rattle.heap_core.specs.Heap.{closed_heap};
 ghost use Rattle.replay_top.specs.Top.{asked, stop_status, Tells, Replays, IsComplete};
 
 use crate::line::Stop;

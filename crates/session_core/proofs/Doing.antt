@@ -12,11 +12,13 @@ use Rattle.store_model.specs.Slots.{held, put_in_slot, is_same}
 use Rattle.store_model.specs.Steps.{Does, int_at, ref_at, put_int, put_ref, array_request}
 use Rattle.text_model.specs.declared.item.Reason.TheVariants.{NotBuilt, Range}
 use Rattle.text_model.specs.Range.{is_above}
-use Rattle.store_model.specs.Refusal.{is_unbuilt}
+use Rattle.store_model.specs.Unbuilt.{is_unbuilt}
 use Rattle.heap_core.specs.declared.fault.HeapFault.{HeapFault}
-use Rattle.heap_core.specs.Parts.{HeapParts, HeapSeen}
-use Rattle.heap_core.specs.StandsFor.{StandsFor, StandsForIf}
-use Rattle.heap_core.specs.Commands.{OfParts, AreReady, CanDo, CanDoIf, Changes, Bears}
+use Rattle.heap_parts.specs.Parts.{HeapParts}
+use Rattle.heap_core.specs.Heap.{HeapSeen}
+use Rattle.heap_core.specs.Heap.{StandsFor, StandsForIf}
+use Rattle.heap_core.specs.Commands.{OfParts, AreReady, CanDo, CanDoIf, Bears}
+use Rattle.object_view.proofs.ChangeLaws.{Changes}
 use Rattle.heap_core.proofs.Ready.{passed}
 use Rattle.session_core.specs.Doing.{DoesCommand}
 

@@ -18,9 +18,10 @@ use Rattle.object_model.specs.SettingRanges.{is_outside, ranges}
 use Rattle.store_model.specs.Look.{Look}
 use Rattle.store_model.specs.Refusal.{refusal_seen, command_checks}
 use Rattle.store_model.specs.Transcript.{ItemDoes}
-use Rattle.heap_core.specs.Parts.{HeapParts, HeapSeen, heap_of, closed_heap}
-use Rattle.heap_core.specs.Told.{told}
-use Rattle.heap_core.specs.StandsFor.{StandsFor}
+use Rattle.heap_parts.specs.Parts.{HeapParts}
+use Rattle.heap_core.specs.Heap.{HeapSeen, heap_of, closed_heap}
+use Rattle.heap_parts.specs.Told.{told}
+use Rattle.heap_core.specs.Heap.{StandsFor}
 use Rattle.heap_core.specs.Commands.{OfParts, AreReady, CanDo, IsFresh, IsStanding, setup_in, told_by}
 use Rattle.heap_core.proofs.Ready.{passed}
 use Rattle.session_core.specs.Seen.{SessionSeen}

@@ -14,8 +14,10 @@ use Rattle.store_model.specs.Look.{Look, look, is_held_in}
 use Rattle.store_model.specs.Progress.{Progress}
 use Rattle.store_model.specs.Refusal.{refusal, refusal_seen}
 use Rattle.object_model.specs.declared.structure.StructState.TheVariants.{Absent}
-use Rattle.heap_core.specs.Parts.{HeapParts, HeapSeen, started_parts, AreFresh}
-use Rattle.heap_core.specs.Told.{word_in, kind_at, told}
+use Rattle.heap_parts.specs.Parts.{HeapParts, started_parts, AreFresh}
+use Rattle.heap_core.specs.Heap.{HeapSeen}
+use Rattle.heap_core.specs.Told.{word_in}
+use Rattle.heap_parts.specs.Told.{kind_at, told}
 use Rattle.heap_core.specs.Commands.{nothing_told}
 use Rattle.heap_core.proofs.Calls.{look_told}
 use Rattle.session_core.specs.Seen.{SessionSeen}

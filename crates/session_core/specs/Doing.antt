@@ -4,8 +4,8 @@ use Rattle.text_model.specs.declared.command.Command.{Command}
 use Rattle.text_model.specs.declared.line.Line.{Line}
 use Rattle.store_model.specs.Store.{Store}
 use Rattle.store_model.specs.Steps.{Does}
-use Rattle.heap_core.specs.Parts.{HeapSeen}
-use Rattle.heap_core.specs.StandsFor.{StandsFor}
+use Rattle.heap_core.specs.Heap.{HeapSeen}
+use Rattle.heap_core.specs.Heap.{StandsFor}
 use Rattle.heap_core.specs.Commands.{OfParts, setup_in}
 
 -- The command does what each store that the heap stands for allows, and appends its lines.

@@ -12,8 +12,9 @@ use Rattle.store_model.specs.Progress.{Progress, with_setting}
 use Rattle.store_model.specs.Look.{Look}
 use Rattle.store_model.specs.Refusal.{refusal, refusal_seen}
 use Rattle.store_model.specs.Transcript.{Group, ItemDoes, group_lines}
-use Rattle.heap_core.specs.Parts.{HeapParts, HeapSeen, closed_heap, heap_of}
-use Rattle.heap_core.specs.StandsFor.{StandsFor}
+use Rattle.heap_parts.specs.Parts.{HeapParts}
+use Rattle.heap_core.specs.Heap.{HeapSeen, closed_heap, heap_of}
+use Rattle.heap_core.specs.Heap.{StandsFor}
 use Rattle.heap_core.specs.Commands.{nothing_told, told_by}
 use Rattle.session_core.specs.declared.session.RunFault.{RunFault}
 use Rattle.session_core.specs.declared.session.RunFault.TheVariants.{Malformed, OutOfMemory}

@@ -17,7 +17,7 @@ use Rattle.object_model.specs.Sets.{is_in}
 use Rattle.object_model.specs.ObjectWords.{words_at, info_at}
 use Rattle.object_view.specs.Moving.{place_now}
 use Rattle.object_view.specs.Views.{HasObject}
-use Rattle.object_view.proofs.WordLaws.{is_in-nil}
+use Rattle.object_model.proofs.Members.{is_in-nil}
 use Rattle.object_view.proofs.LayoutLaws.{laid_out}
 use Rattle.object_view.proofs.SpaceLaws.{lies-at, lies-fits}
 use Rattle.object_view.proofs.SurvivorLaws.{filter-part}

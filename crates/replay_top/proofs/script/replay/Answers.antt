@@ -1,6 +1,6 @@
 use Rattle.std.proofs.Common.{Err, take, sym, ap, subst, ◌∙◌, arith}
 use Rattle.std.proofs.lemmas.Result.{err_from_is_err_and}
-use Rattle.heap_core.specs.Parts.{HeapSeen}
+use Rattle.heap_core.specs.Heap.{HeapSeen}
 use Rattle.replay_top.proofs.RunsOn.{RunsOn, runs_from, runs_on}
 use Rattle.replay_top.proofs.RunEnds.{ends_unbegun, ends_unread, ends_done, ends_reading, ends_line}
 use Rattle.replay_top.proofs.script.replay.Goals as goal

@@ -2,7 +2,7 @@ use Rattle.std.proofs.Common.{sym, ap, subst, ◌∙◌}
 use Rattle.object_model.specs.declared.settings.Settings.{Settings}
 use Rattle.store_model.specs.Store.{empty_store}
 use Rattle.heap_core.specs.Commands.{IsFresh}
-use Rattle.heap_core.specs.StandsFor.{StandsFor}
+use Rattle.heap_core.specs.Heap.{StandsFor}
 use Rattle.session_core.specs.Seen.{SessionSeen}
 use Rattle.session_core.proofs.Doing.{on_ok_both}
 use Rattle.session_core.proofs.Items.{begins_first}
