@@ -9,7 +9,8 @@ use Rattle.object_model.specs.Setup.{Setup}
 use Rattle.store_model.specs.Store.{Store, husk_words}
 use Rattle.object_model.specs.Object.{kept_words}
 use Rattle.store_model.specs.Slots.{held, put_in_slot, is_same}
-use Rattle.store_model.specs.Steps.{Does, int_at, ref_at, put_int, put_ref, array_request}
+use Rattle.store_model.specs.Steps.{Does, int_at, ref_at, put_int, put_ref}
+use Rattle.store_model.specs.Births.{array_request}
 use Rattle.text_model.specs.declared.item.Reason.TheVariants.{NotBuilt, Range}
 use Rattle.text_model.specs.Range.{is_above}
 use Rattle.store_model.specs.Unbuilt.{is_unbuilt}

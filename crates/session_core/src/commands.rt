@@ -2,7 +2,7 @@
 ghost use Rattle.std.specs.Prelude.{OnOk, ◌⊎◌};
 ghost use Rattle.text_model.specs.declared.command.Command.TheVariants.{Get, Load, Same, Used};
 ghost use Rattle.heap_core.specs.Commands.{CanDo, CanBear, Bears};
-ghost use Rattle.store_model.specs.Steps.{array_request};
+ghost use Rattle.store_model.specs.Births.{array_request};
 ghost use Rattle.session_core.specs.Doing.{DoesCommand};
 
 use heap_core::{Heap, HeapFault};

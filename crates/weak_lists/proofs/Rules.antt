@@ -20,7 +20,7 @@ use Rattle.object_view.specs.Views.{HasObject}
 use Rattle.object_model.proofs.Members.{is_in-nil}
 use Rattle.object_view.proofs.LayoutLaws.{laid_out}
 use Rattle.object_view.proofs.SpaceLaws.{lies-at, lies-fits}
-use Rattle.object_view.proofs.SurvivorLaws.{filter-part}
+use Rattle.object_model.proofs.Members.{filter-part}
 use Rattle.weak_lists.specs.Targets.{is_outside, survives, weaks_left, is_gone, followed, is_unvisited, kept_target, target_at}
 use Rattle.weak_lists.specs.Conditions.{AreObjects, HasMoved, IsFollowed, CanFollow, CanClear, CanSettle, CanRead}
 use Rattle.weak_lists.proofs.TargetLaws.{followed-there, followed-gone}
