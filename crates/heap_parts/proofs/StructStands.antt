@@ -3,12 +3,12 @@ use Rattle.std.proofs.Common.{◌≡◌, ◌≢◌, ℕ, ◌≤◌, Bool, true, 
 use Rattle.std.specs.Prelude.{filter, option_map, option_and_then, ◌==◌, not, cond}
 use Rattle.std.proofs.lemmas.Bool.Decides.{eqb_tells}
 use Rattle.type_table.specs.Table.{Table, value_at, with_value}
-use Rattle.type_table.proofs.TableLaws.{value_at-with_value, KeysRise-with_value}
+use Rattle.type_table.proofs.TableLaws.{value_at-with_value}
 use Rattle.store_model.specs.Store.{Store, Struct, Linked, Unlinked, Pending}
 use Rattle.object_model.specs.Sets.{is_in}
 use Rattle.store_model.specs.Roots.{is_kept}
 use Rattle.store_model.specs.Structs.{Structs, object_of, forced_object, with_object, with_objects, raised}
-use Rattle.store_model.specs.Sound.{p_linked_object, IsOwnSound}
+use Rattle.store_model.specs.Sound.{p_linked_object}
 use Rattle.store_model.specs.PlainCommands.{link_struct, structs_linked, raise_struct, raised_at, forced_anew, Revives, without_revived}
 use Rattle.heap_parts.specs.Parts.{HeapParts, place_in}
 use Rattle.heap_parts.specs.Lists.{HoldsLinks}
@@ -21,7 +21,7 @@ use Rattle.store_model.proofs.ReachLaws.{relieves_revived, can_revived}
 use Rattle.heap_parts.proofs.RootStands.{rooted_stands}
 use Rattle.store_model.proofs.StructLaws.{PutsAt, forced-found, value_at-objects, with_value-objects}
 use Rattle.store_model.proofs.RootChanges.{struct_change}
-use Rattle.store_model.proofs.StructChanges.{CanRise, object-raised, p_linked-raised, live-raised, own-raised, not-waiting, forced-raised, anew-object, not-queued, some-pending}
+use Rattle.store_model.proofs.StructChanges.{CanRise, object-raised, forced-raised, anew-object, raise_puts, make_puts}
 
 -- the heap with other structures
 abbrev pub with_links : HeapParts → Structs → HeapParts
@@ -86,20 +86,7 @@ inc_stands heap store number t s is can =
     let puts : PutsAt store.kept store.structs store.dead (with_objects s.name risen) heap.links.dead number (Some (with_object s.name (raised t))) =
     subst (λ (y : Struct). PutsAt store.kept store.structs store.dead (with_objects s.name risen) heap.links.dead number (Some y)) (sym (raised-named s.name t))
     (subst (λ (xs : Table Struct). PutsAt store.kept store.structs store.dead xs heap.links.dead number (Some (raised named))) (sym store_risen)
-    (subst (λ (ds : List ℕ). PutsAt store.kept store.structs store.dead (with_value store.structs number (raised named)) ds number (Some (raised named))) s.links.queue (record {
-      rises = KeysRise-with_value store.structs number (raised named) s.sound.links.rises;
-      at = λ q. value_at-with_value store.structs number q (raised named);
-      object = λ x e. s.sound.links.objects number x (ap (option_and_then object_of) found ∙ (sym (object-raised named) ∙ e));
-      one = λ other x e f. s.sound.links.one_p_link other number x f (ap (option_and_then p_linked_object) found ∙ (sym (p_linked-raised named) ∙ e));
-      live = some-pending (raised named) (live-raised named (rise-named s.name t can));
-      range = λ u e. let same : raised named ≡ u = cc in (
-        (s.sound.links.in_range number named found).0,
-        subst IsOwnSound same (own-raised named (rise-named s.name t can)),
-      );
-      once = s.sound.links.dead_once;
-      others = λ q ne. refl;
-      here = not-queued s.sound.links number (Some named) found (some-pending named (not-waiting named (rise-named s.name t can)));
-    }))) in
+    (subst (λ (ds : List ℕ). PutsAt store.kept store.structs store.dead (with_value store.structs number (raised named)) ds number (Some (raised named))) s.links.queue (raise_puts s.sound.links number named found (rise-named s.name t can)))) in
     let root : (x : ℕ) → forced_object (with_object s.name (raised t)) ≡ Some x → CanBeRoot store.kept unreached doomed x =
     λ x e. elim (forced-raised named x (ap forced_object (sym (raised-named s.name t)) ∙ e)) [
       | inl was ↦ can_relieved r x (can_root s.sound x ((are_roots store).force x (forced-found store.structs number x (ap (option_and_then forced_object) found ∙ was))))
@@ -135,17 +122,7 @@ make_link_stands heap store p number root light own s full absent few_numbers fe
     let root_is : CanBeRoot store.kept store.unreached store.doomed birth = can_root s.sound birth (held_root store root birth here.named) in
     let puts : PutsAt store.kept store.structs store.dead (with_objects s.name made) heap.links.dead number (Some (Linked p light birth own)) =
     subst (λ (xs : Table Struct). PutsAt store.kept store.structs store.dead xs heap.links.dead number (Some (Linked p light birth own))) (sym store_made)
-    (subst (λ (ds : List ℕ). PutsAt store.kept store.structs store.dead (with_value store.structs number (Linked p light birth own)) ds number (Some (Linked p light birth own))) s.links.queue (record {
-      rises = KeysRise-with_value store.structs number (Linked p light birth own) s.sound.links.rises;
-      at = λ q. value_at-with_value store.structs number q (Linked p light birth own);
-      object = λ x e. let same : birth ≡ x = cc in subst (λ (k : ℕ). IsTrue (is_kept store.kept k)) same root_is.is_there;
-      one = λ other x e f. absurd (p-linked-apart p light birth own x e (λ yes same. no-other s place here.there (free yes) other (f ∙ ap Some (sym same))));
-      live = λ e. let no : ⊥ = cc in no;
-      range = λ u e. let same : Linked p light birth own ≡ u = cc in (few_numbers, subst IsOwnSound same few);
-      once = s.sound.links.dead_once;
-      others = λ q ne. refl;
-      here = not-queued s.sound.links number None none (λ e. let no : ⊥ = cc in no);
-    })) in
+    (subst (λ (ds : List ℕ). PutsAt store.kept store.structs store.dead (with_value store.structs number (Linked p light birth own)) ds number (Some (Linked p light birth own))) s.links.queue (make_puts s.sound.links number p light birth own none few_numbers few root_is.is_there (λ yes. no-other s place here.there (free yes)))) in
     let stands = struct_stands s number made heap.links.dead (Some (Linked p light place own)) store.unreached store.doomed
     (λ q. value_at-with_value heap.links.structs number q (Linked p light place own))
     (λ q e. let same : place ≡ q = cc in subst (λ (k : ℕ). IsTrue (is_in k s.places)) same here.there) puts (relieves_none store.kept store.unreached store.doomed)
@@ -154,10 +131,6 @@ make_link_stands heap store p number root light own s full absent few_numbers fe
     (ap₂ (λ (xs : Table Struct) (ds : List ℕ). record store { structs = xs; dead = ds }) store_made (sym s.links.queue)
     ∙ sym (ap (λ (o : Option ℕ). record store { structs = structs_linked store.structs p number o light own }) here.named)) stands
   where
-    p-linked-apart : (p light : Bool) (birth own x : ℕ) → p_linked_object (Linked p light birth own) ≡ Some x → (IsTrue p → birth ≡ x → ⊥) → ⊥
-    p-linked-apart true light birth own x e f = f refl (let same : birth ≡ x = cc in same)
-    p-linked-apart false light birth own x e f = let none : ⊥ = cc in none
-
     forced-birth : (p light : Bool) (birth own x : ℕ) → forced_object (Linked p light birth own) ≡ Some x → birth ≡ x
     forced-birth true light birth own x e = elim (eqb_tells own 0) [
       | inl z ↦ absurd (let none : None ≡ Some x = rw z.0 at e in let no : ⊥ = cc in no)

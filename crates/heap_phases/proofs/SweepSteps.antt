@@ -16,7 +16,7 @@ use Rattle.store_model.specs.Store.{Store, husk_words}
 use Rattle.object_model.specs.Setup.{small_words}
 use Rattle.std.proofs.lemmas.List.Sums.{sum_by-cons}
 use Rattle.std.proofs.lemmas.Nat.{mul-le}
-use Rattle.store_model.specs.Sweeping.{husks_where, is_freed, after_sweep, CanBe, SweepingStep}
+use Rattle.store_model.specs.Sweeping.{husks_where, is_freed, after_sweep, MayEndIn, SweepingStep}
 use Rattle.store_model.specs.Sound.{IsSound, IsPhaseSound}
 use Rattle.heap_parts.specs.Parts.{HeapParts, word_in, home_in}
 use Rattle.heap_parts.specs.OldSpace.{AreUnitsSwept, is_waiting, husk_at, blocks_of, unit_at}
@@ -438,7 +438,7 @@ pub record StepsSweeping (heap : HeapParts) (store : Store) (new : Old) (memory 
   pub phase : Phase
   pub phase_is : phase_left heap.setup.settings.sweep (units_left heap.old_blocks) ≡ phase
   pub stands : PartsStandFor (in_phase (swept_parts heap memory new births) phase) (after_sweep store (λ x. is_in x births) phase)
-  pub can_be : CanBe phase (after_sweep store (λ x. is_in x births) phase)
+  pub may_end : MayEndIn phase (after_sweep store (λ x. is_in x births) phase)
   pub freed : IsPermutation births (map (λ (h : ℕ × ℕ). h.0) (husks_where store.husks (λ x. is_in x births)))
   pub few_small : husk_words (filter (λ h. nat_le h.1 (small_words heap.setup.settings)) (husks_where store.husks (λ x. is_in x births))) ≤ heap.setup.settings.sweep * heap.setup.settings.page
   pub few_large : length (filter (λ h. nat_lt (small_words heap.setup.settings) h.1) (husks_where store.husks (λ x. is_in x births))) ≤ heap.setup.settings.sweep
@@ -485,7 +485,7 @@ step_stands heap store s sweeping fresh n new memory births counted steps =
             phase = Sweeping;
             phase_is = rw (is-less heap.setup.settings.sweep (units_left heap.old_blocks) (omega (arith, more, units))) refl;
             stands = goes_on_sweeping after (without_husks store births) some.left.stands sweeping few steps_left;
-            can_be = steps_left;
+            may_end = steps_left;
             freed = some.freed;
             few_small = at-most n heap.setup.settings.sweep heap.setup.settings.page _ (omega (arith, count)) some.few.few_small;
             few_large = (let l = some.few.few_large in omega (arith, l, count));
@@ -496,7 +496,7 @@ step_stands heap store s sweeping fresh n new memory births counted steps =
             phase = Finalizing;
             phase_is = rw (is-no-less heap.setup.settings.sweep (units_left heap.old_blocks) (omega (arith, all, units))) refl;
             stands = ends_sweeping after (without_husks store births) some.left.stands sweeping none;
-            can_be = no_husks after (without_husks store births) some.left.stands sweeping none;
+            may_end = no_husks after (without_husks store births) some.left.stands sweeping none;
             freed = some.freed;
             few_small = at-most n heap.setup.settings.sweep heap.setup.settings.page _ (omega (arith, count)) some.few.few_small;
             few_large = (let l = some.few.few_large in omega (arith, l, count));
@@ -520,7 +520,7 @@ sweeping_step heap store s new memory births sorted r same order = record {
   phase = r.phase;
   few_small = r.few_small;
   few_large = r.few_large;
-  can_be = r.can_be;
+  may_end = r.may_end;
   printed =
       let is : sorted ≡ map (λ (h : ℕ × ℕ). h.0) (husks_where store.husks (λ x. is_in x births)) =
       sorted_births store.next births sorted _ same order r.freed (freed-rise heap store s (λ x. is_in x births)) (let n = s.sound.births.next_above in omega (arith, n)) in

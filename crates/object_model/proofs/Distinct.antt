@@ -1,8 +1,8 @@
 -- Lists of numbers that differ.
-use Rattle.std.proofs.Common.{◌≡◌, ℕ, Bool, true, false, IsTrue, List, [], ◌∷◌, ◌++◌, map, nat_eq, refl, sym, ◌∙◌, subst, inl, inr, arith}
-use Rattle.std.specs.Prelude.{IsFalse, filter, ◌==◌}
+use Rattle.std.proofs.Common.{◌≡◌, ℕ, Bool, true, false, IsTrue, List, [], ◌∷◌, ◌++◌, map, nat_eq, refl, sym, ◌∙◌, subst, inl, inr, arith, ◌≢◌, ◌-◌, Option, Some, None, ap, ap₂}
+use Rattle.std.specs.Prelude.{IsFalse, filter, ◌==◌, option_map, option_and_then, if◌then◌else◌}
 use Rattle.std.specs.List.{IsDistinct, AllByRecursion}
-use Rattle.std.proofs.lemmas.Bool.{cases_Bool, eq-eqb}
+use Rattle.std.proofs.lemmas.Bool.{cases_Bool, eq-eqb, ne_eqb}
 use Rattle.std.proofs.lemmas.Bool.Decides.{eqb_tells, nat_tests}
 use Rattle.object_model.proofs.Members.{is_in-head, is_in-tail, is_in-cases, is_in-nil}
 use Rattle.object_model.specs.Sets.{is_in}
@@ -69,3 +69,11 @@ distinct-apart (z ∷ xs) ys d x t = elim (is_in-cases x z xs t) [
   | inl e ↦ subst (λ (k : ℕ). IsFalse (is_in k ys)) (sym e) (all-out z xs ys d.0)
   | inr u ↦ distinct-apart xs ys d.1 x u
 ]
+
+pub distinct-tail : (x : ℕ) (xs : List ℕ) → IsDistinct nat_eq (x ∷ xs) → IsDistinct nat_eq xs
+unfolding IsDistinct
+distinct-tail x xs d = d.1
+
+pub distinct-head : (x : ℕ) (xs : List ℕ) → IsDistinct nat_eq (x ∷ xs) → IsFalse (is_in x xs)
+unfolding IsDistinct
+distinct-head x xs d = elim (cases_Bool (is_in x xs)) [ inl t ↦ absurd (differ-in x xs d.0 t) | inr f ↦ f ]

@@ -17,7 +17,7 @@ use Rattle.store_model.specs.Roots.{is_kept, roots_of, registered_births, refere
 use Rattle.store_model.specs.Reach.{Tells, LeadsTo, Reaches, refers, is_root, is_registered, IsReachedFrom}
 use Rattle.store_model.specs.MinorCollection.{MinorCollection, is_entry, is_unsettled, has_settled_referrer, refers_unsettled}
 use Rattle.store_model.specs.Marking.{StartOfMarking, MarkingStep, EndOfMarking, CanVisit, IsMarked, IsSaved, IsChosen, GoesOn, visited_words, is_dying, is_white, stands_before, with_visited}
-use Rattle.store_model.specs.Sweeping.{SweepingStep, CanBe, husks_where, after_sweep}
+use Rattle.store_model.specs.Sweeping.{SweepingStep, MayEndIn, husks_where, after_sweep}
 use Rattle.store_model.specs.Collections.{When, MajorStep, StepFrom, Block, Cycle, Last, More, TwoCycles, Collect as Collects, CollectFrom, MakesRoom, always, is_scanning, is_step_due, needs_block, exceeds_limit}
 use Rattle.store_model.proofs.Rounds.{equal, open_or_in, list_all-is_in, list_all-each, is_in-filter, spread, closure, led_tells, kept-births, tells_revived}
 use Rattle.object_model.proofs.Members.{and_first, and_second, and_both}
@@ -262,7 +262,7 @@ mark-means settings store (Visits births ∷ choices) =
       goes_on = go-means enough settings (map (λ x. line.Visited x) births) (with_visited store births) choices (and_second (can_visit settings.increment store births) (ok_of out) h);
     })
 
-may-means : (phase : Phase) (store : Store) → IsTrue (may_be phase store) → CanBe phase store
+may-means : (phase : Phase) (store : Store) → IsTrue (may_be phase store) → MayEndIn phase store
 may-means Scanning store h = absurd (false≢true h)
 may-means Marking store h = absurd (false≢true h)
 may-means Sweeping store h = lt_of 0 store.left h
@@ -285,7 +285,7 @@ sweep-means phase settings freed store choices h =
       phase = phase;
       few_small = le_of small (settings.sweep * settings.page) (and_first few (few_large && may) all);
       few_large = le_of large settings.sweep (and_first few_large may rest);
-      can_be = may-means phase (after_sweep store freed phase) (and_second few_large may rest);
+      may_end = may-means phase (after_sweep store freed phase) (and_second few_large may rest);
       printed = refl;
       leaves = refl;
     }

@@ -18,7 +18,7 @@ use Rattle.store_model.specs.Store.{Store, is_settled}
 use Rattle.store_model.specs.Slots.{held}
 use Rattle.store_model.specs.MinorCollection.{MinorCollection, AreAllPinned, after_minor}
 use Rattle.store_model.specs.Marking.{EndOfMarking, MarkingStep, GoesOn, with_visited, visited_words, after_marking, is_white, is_condemned}
-use Rattle.store_model.specs.Sweeping.{CanBe, without_husks, after_sweep, after_finalizing}
+use Rattle.store_model.specs.Sweeping.{MayEndIn, without_husks, after_sweep, after_finalizing}
 use Rattle.store_model.specs.Collections.{StepFrom, MajorStep, When, Block, Cycle, Last, More, TwoCycles, CollectFrom, Collect as Collects, MakesRoom, always, is_step_due, needs_block, exceeds_limit}
 use Rattle.store_model.specs.Births.{BirthWithRoomOf}
 use Rattle.store_model.specs.Sound.{IsSound, IsPhaseSound, AreNoneOf, RiseBetween, IsInForm}
@@ -99,13 +99,13 @@ module _ (settings : Settings) (sweeps : 0 < settings.sweep) where
       go false (rest, e, is) = leaves (after_marking settings (with_visited old m.births) e.saved e.chosen) e.leaves
           (end_leaves (with_visited old m.births) rest new marking pinned mid (few_kept old w.form) e) refl (marking_form settings old lines new marking w.form m)
 
-  sweep_sound : (old : Store) (freed : ℕ → Bool) (phase : Phase) → old.phase ≡ Sweeping → CanBe phase (after_sweep old freed phase) → IsSound settings old → IsSound settings (after_sweep old freed phase)
+  sweep_sound : (old : Store) (freed : ℕ → Bool) (phase : Phase) → old.phase ≡ Sweeping → MayEndIn phase (after_sweep old freed phase) → IsSound settings old → IsSound settings (after_sweep old freed phase)
   sweep_sound old freed phase sweeping can s =
       let p : IsPhaseSound Sweeping settings.sweep old = subst (λ (ph : Phase). IsPhaseSound ph settings.sweep old) sweeping s.phase in
       let h : IsSound settings (without_husks old freed) = husks_sound settings old freed sweeping s in
       sound_but settings (without_husks old freed) (without_husks old freed).husks (without_husks old freed).homes old.visited (old.left - 1) phase (phase_after phase can p) h.births h
     where
-      phase_after : (to : Phase) → CanBe to (after_sweep old freed phase) → IsPhaseSound Sweeping settings.sweep old → IsPhaseSound to settings.sweep (after_sweep old freed phase)
+      phase_after : (to : Phase) → MayEndIn to (after_sweep old freed phase) → IsPhaseSound Sweeping settings.sweep old → IsPhaseSound to settings.sweep (after_sweep old freed phase)
       phase_after Scanning can p = absurd can
       phase_after Marking can p = absurd can
       phase_after Sweeping can p = ((let less = p.0 in omega (arith, less)), p.1, p.2)
@@ -116,7 +116,7 @@ module _ (settings : Settings) (sweeps : 0 < settings.sweep) where
       leaves _ s.leaves (start_sound settings old w.sound pinned is s.reached s.tells_reached s.retained s.tells_retained) refl (step_form Scanning settings old lines new is w.form s)
   step_leaves Marking old lines new is pinned w s = marking_leaves old lines new is pinned w s
   step_leaves Sweeping old lines new is pinned w s =
-      leaves (after_sweep old s.freed s.phase) s.leaves (sweep_sound old s.freed s.phase is (subst (CanBe s.phase) s.leaves s.can_be) w.sound) refl (sweep_form settings old lines new w.form s)
+      leaves (after_sweep old s.freed s.phase) s.leaves (sweep_sound old s.freed s.phase is (subst (MayEndIn s.phase) s.leaves s.may_end) w.sound) refl (sweep_form settings old lines new w.form s)
   step_leaves Finalizing old lines new is pinned w s = leaves (after_finalizing settings old) s.1 (final_sound settings old w.sound is) refl (step_form Finalizing settings old lines new is w.form s)
 
   stays : (old : Store) → IsWell old → Leaves old old

@@ -112,7 +112,7 @@ module _ (settings : Settings) (store : Store) (sound : IsSound settings store) 
   pinned-root : (x : ℕ) → IsTrue (is_in x (pinned_births store)) → IsFalse (is_in x store.doomed)
   pinned-root x t = sound.roots_retained x (in-right x (filter_map (λ slot. slot) store.slots) _ (in-left x (pinned_births store) _ t))
 
-  -- T5.1: a kept doomed object is condemned
+  -- a kept doomed object is condemned
   pub doomed_gone : (x : ℕ) → AreNoneOf store.visited store.unreached → ((y : ℕ) → IsTrue (is_in y store.doomed) → IsTrue (is_in y store.unreached))
       → IsTrue (is_kept store.kept x) → IsTrue (is_in x store.doomed) → gone x ≡ true
   doomed_gone x apart unreached kept doomed =

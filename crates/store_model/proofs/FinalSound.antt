@@ -113,6 +113,6 @@ module _ (settings : Settings) (store : Store) (sound : IsSound settings store) 
     births = sound.births;
   }
 
-  -- T5.1: when the cycle ends, what was doomed and not revived is neither kept nor a husk
+  -- when the cycle ends, what was doomed and not revived is neither kept nor a husk
   pub doomed_freed : AreGone new.kept store.doomed × (new.husks ≡ [])
   doomed_freed = (phase-is.1, phase-is.0)

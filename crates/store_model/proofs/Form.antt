@@ -23,7 +23,7 @@ use Rattle.store_model.specs.Slots.{held}
 use Rattle.store_model.specs.Reach.{objects_where}
 use Rattle.store_model.specs.MinorCollection.{MinorCollection, after_minor, clear_target, vanishes}
 use Rattle.store_model.specs.Marking.{EndOfMarking, MarkingStep, GoesOn, with_visited, visited_words, after_marking, is_white, is_condemned}
-use Rattle.store_model.specs.Sweeping.{SweepingStep, CanBe, after_sweep, queues_with, after_finalizing}
+use Rattle.store_model.specs.Sweeping.{SweepingStep, MayEndIn, after_sweep, queues_with, after_finalizing}
 use Rattle.store_model.specs.Collections.{StepFrom, MajorStep, When, Block, Cycle, Last, More, TwoCycles, CollectFrom, Collect as Collects, MakesRoom, always, is_step_due, needs_block, exceeds_limit}
 use Rattle.store_model.specs.Birth.{settled_with, with_birth}
 use Rattle.store_model.specs.Births.{BirthWithRoomOf, fixed_request, array_request, weak_request}
@@ -163,12 +163,12 @@ module _ {roots : ℕ} where
     kept = r.kept;
     husks = rise_part (λ (husk : ℕ × ℕ). husk.0) (λ husk. not (s.freed husk.0)) 1 old.next old.husks r.husks;
     settled = r.settled;
-    swept = swept s.phase (subst (CanBe s.phase) s.leaves s.can_be);
+    swept = swept s.phase (subst (MayEndIn s.phase) s.leaves s.may_end);
     no_empty_queue = r.no_empty_queue;
     slots = r.slots;
   })
     where
-      swept : (phase : Phase) → CanBe phase (after_sweep old s.freed s.phase) → phase ≢ Sweeping → (after_sweep old s.freed s.phase).husks ≡ []
+      swept : (phase : Phase) → MayEndIn phase (after_sweep old s.freed s.phase) → phase ≢ Sweeping → (after_sweep old s.freed s.phase).husks ≡ []
       swept Scanning can other = absurd can
       swept Marking can other = absurd can
       swept Sweeping can other = absurd (other refl)

@@ -9,6 +9,7 @@ use Rattle.store_model.specs.MinorCollection.{MinorCollection}
 use Rattle.store_model.specs.Marking.{StartOfMarking, MarkingStep}
 use Rattle.store_model.specs.Sweeping.{SweepingStep, finalizing_lines, after_finalizing}
 
+-- what a phase does
 abbrev pub StepFrom : Phase → Settings → Store → List Line → Store → Type 0
 StepFrom Scanning settings old lines new = StartOfMarking old lines new
 StepFrom Marking settings old lines new = MarkingStep settings old lines new
@@ -33,6 +34,7 @@ pub record Block (is_due : Store → Bool) (settings : Settings) (old : Store) (
   pub stepped : When (is_due mid) (MajorStep settings) mid major new
   pub printed : lines ≡ minor ++ major
 
+-- each step is due
 abbrev pub always : Store → Bool
 always store = true
 
@@ -56,9 +58,11 @@ abbrev pub CollectFrom : Phase → Settings → Store → List Line → Store �
 CollectFrom Scanning settings old lines new = Cycle settings old lines new
 CollectFrom phase settings old lines new = TwoCycles settings old lines new
 
+-- a whole collection
 abbrev pub Collect : Settings → Store → List Line → Store → Type 0
 Collect settings old lines new = CollectFrom old.phase settings old lines new
 
+-- whether no cycle runs
 abbrev pub is_scanning : Phase → Bool
 is_scanning Scanning = true
 is_scanning Marking = false

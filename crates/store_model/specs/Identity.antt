@@ -26,6 +26,7 @@ pub record TellsHome (old : Store) (root place : ℕ) (new : Store) : Type 0 whe
   pub may : MayTell (value_at old.homes birth) old.homes place
   pub leaves : new ≡ record old { homes = with_value old.homes birth place }
 
+-- the hash of an object, by its home
 abbrev pub hash_of : ℕ → ℕ
 hash_of place = bit_xor place (place / 16)
 
@@ -34,6 +35,7 @@ abbrev pub is_settled_in : Store → Option ℕ → Bool
 is_settled_in store None = false
 is_settled_in store (Some birth) = is_settled store.settled birth
 
+-- where an object is: young, or its home
 abbrev pub TellsPlace : Bool → Store → ℕ → List Line → Store → Type 0
 TellsPlace false old root lines new = (lines ≡ PlaceIs None ∷ []) × (new ≡ old)
 TellsPlace true old root lines new = (place : ℕ) × TellsHome old root place new × (lines ≡ PlaceIs (Some place) ∷ [])
@@ -45,6 +47,7 @@ can_refer IntArray = false
 can_refer RefArray = true
 can_refer Weak = true
 
+-- whether what a slot holds can; nothing counts as if it could
 abbrev pub can_refer_in : Option Object → Bool
 can_refer_in None = true
 can_refer_in (Some object) = can_refer object.info.shape
@@ -59,10 +62,12 @@ abbrev pub pinned_more : List (ℕ × ℕ) → ℕ → List (ℕ × ℕ)
 pinned_more [] birth = (birth, 1) ∷ []
 pinned_more (entry ∷ pinned) birth = if entry.0 == birth then (entry.0, entry.1 + 1) ∷ pinned else entry ∷ pinned_more pinned birth
 
+-- the pins with this count of the object in front of them, if it is above 0
 abbrev pub with_count : ℕ → ℕ → List (ℕ × ℕ) → List (ℕ × ℕ)
 with_count birth zero pinned = pinned
 with_count birth (suc n) pinned = (birth, suc n) ∷ pinned
 
+-- and one less
 abbrev pub pinned_less : List (ℕ × ℕ) → ℕ → List (ℕ × ℕ)
 pinned_less [] birth = []
 pinned_less (entry ∷ pinned) birth = if entry.0 == birth then with_count entry.0 (entry.1 - 1) pinned else entry ∷ pinned_less pinned birth
@@ -72,6 +77,7 @@ abbrev pub has_pin_room : ℕ → List (ℕ × ℕ) → ℕ → Bool
 has_pin_room pins pinned zero = nat_lt (length pinned) pins
 has_pin_room pins pinned (suc n) = nat_lt (suc n) 65535
 
+-- whether one pin more may be counted of a birth and its object
 abbrev pub can_pin_birth : ℕ → Store → Option ℕ → Option Object → Bool
 can_pin_birth pins store None object = false
 can_pin_birth pins store (Some birth) object =
@@ -81,11 +87,13 @@ can_pin_birth pins store (Some birth) object =
 abbrev pub can_pin : ℕ → Store → ℕ → Bool
 can_pin pins store root = can_pin_birth pins store (held store.slots root) (object_in store.slots store.kept root)
 
+-- the pins after the answer yes or no
 abbrev pub pinned_with : Bool → List (ℕ × ℕ) → Option ℕ → List (ℕ × ℕ)
 pinned_with false pinned birth = pinned
 pinned_with true pinned None = pinned
 pinned_with true pinned (Some birth) = pinned_more pinned birth
 
+-- the store with one pin more of what a slot holds, if it can be pinned
 abbrev pub pin_slot : ℕ → Store → ℕ → Store
 pin_slot pins store root = record store { pinned = pinned_with (can_pin pins store root) store.pinned (held store.slots root) }
 
@@ -94,5 +102,6 @@ abbrev pub without_held : List (ℕ × ℕ) → Option ℕ → List (ℕ × ℕ)
 without_held pinned None = pinned
 without_held pinned (Some birth) = pinned_less pinned birth
 
+-- the store with one pin less of what a slot holds
 abbrev pub unpin_slot : Store → ℕ → Store
 unpin_slot store root = record store { pinned = without_held store.pinned (held store.slots root) }

@@ -26,6 +26,7 @@ pub record StartOfMarking (old : Store) (lines : List Line) (new : Store) : Type
     doomed = births_where old.kept (λ x. not (retained x));
   }
 
+-- the words of an object, if it is there
 abbrev pub words_of_found : Option Object → ℕ
 words_of_found None = 0
 words_of_found (Some object) = words_of object
@@ -71,11 +72,13 @@ IsChosen store x = IsTrue (is_dying store x) × ((h : ℕ) → h ≢ x → IsTru
 abbrev pub is_condemned : Store → (ℕ → Bool) → ℕ → Bool
 is_condemned store saved x = is_white store x && not (saved x)
 
+-- the lines at the end of marking, where the test tells what is saved
 abbrev pub end_lines : Store → (ℕ → Bool) → List Line
 end_lines store saved =
     map (λ object. Cleared object.birth) (filter (λ object. target_passes (is_white store) object.target) store.kept)
     ++ (map (λ x. Kept x) (births_where store.kept (λ x. is_white store x && saved x)) ++ loss_lines store (is_condemned store saved))
 
+-- the store after marking, where the tests tell what is saved and what is chosen
 abbrev pub after_marking : Settings → Store → (ℕ → Bool) → (ℕ → Bool) → Store
 after_marking settings store saved chosen = record (without_links store (is_condemned store saved)) {
   kept = map (clear_target (is_white store)) (objects_where store.kept (λ x. not (is_condemned store saved x)));
@@ -105,6 +108,7 @@ GoesOn true settings store visits lines new = (lines ≡ Stepped Marking Marking
 GoesOn false settings store visits lines new =
     (rest : List Line) × EndOfMarking settings store rest new × (lines ≡ Stepped Marking Sweeping ∷ (visits ++ rest))
 
+-- the store with more visits
 abbrev pub with_visited : Store → List ℕ → Store
 with_visited store births = record store { visited = store.visited ++ births }
 

@@ -10,6 +10,7 @@ use Rattle.store_model.specs.Sound.{AreNoneOf}
 abbrev pub IsItem : List Object → ℕ → ℕ → ℕ → Type 0
 IsItem kept x i y = slice_get (refs_of (object_at kept x)) i ≡ Some (Some y)
 
+-- each of these births is among the others
 abbrev pub AreAllIn : List ℕ → List ℕ → Type 0
 AreAllIn births others = (x : ℕ) → IsTrue (is_in x births) → IsTrue (is_in x others)
 
@@ -31,6 +32,7 @@ VisitsOwed kept visited gray remembered =
 abbrev pub HeldSettled : List ℕ → (ℕ → ℕ → Bool) → Type 0
 HeldSettled settled remembered = (x i : ℕ) → IsTrue (remembered x i) → IsTrue (is_in x settled)
 
+-- What marking owes between any two commands.
 pub record IsInOrder (kept : List Object) (settled visited gray : List ℕ) (remembered : ℕ → ℕ → Bool) (unreached : List ℕ) : Type 0 where
   pub young : YoungHeld kept settled remembered
   pub owed : VisitsOwed kept visited gray remembered

@@ -12,6 +12,7 @@ use Rattle.store_model.specs.Roots.{is_kept, pinned_births}
 use Rattle.store_model.specs.Links.{link_ends, cut_links}
 use Rattle.store_model.specs.Reach.{Tells, objects_where, births_where, is_root, is_registered, refers, LeadsTo}
 
+-- whether it is kept and in the nursery
 abbrev pub is_unsettled : Store → ℕ → Bool
 is_unsettled store x = is_kept store.kept x && not (is_settled store.settled x)
 
@@ -23,6 +24,7 @@ has_settled_referrer store x = list_any (λ object. is_settled store.settled obj
 abbrev pub is_entry : Store → (ℕ → Bool) → ℕ → Bool
 is_entry store is_held x = is_unsettled store x && (is_root store x || (is_registered store x || is_held x))
 
+-- whether x refers to y, which is in the nursery
 abbrev pub refers_unsettled : Store → ℕ → ℕ → Bool
 refers_unsettled store x y = refers store.kept x y && is_unsettled store y
 
@@ -44,6 +46,7 @@ abbrev pub left_target : (ℕ → Bool) → Option ℕ → Option ℕ
 left_target test None = None
 left_target test (Some t) = if test t then None else Some t
 
+-- an object without a target that passes the test
 abbrev pub clear_target : (ℕ → Bool) → Object → Object
 clear_target test object = record object { target = left_target test object.target }
 
@@ -85,11 +88,13 @@ without_vanished store gone = record (without_links store gone) {
   homes = entries_where (λ x. not (gone x)) store.homes;
 }
 
+-- the lines, where the test tells which unsettled objects survive
 abbrev pub minor_lines : Store → (ℕ → Bool) → List Line
 minor_lines store survives =
     MinorDone (length (births_where store.kept (settles store survives))) (length (births_where store.kept (vanishes store survives)))
     ∷ vanish_lines store (vanishes store survives)
 
+-- the store afterwards, where the test tells which unsettled objects survive
 abbrev pub after_minor : Store → (ℕ → Bool) → Store
 after_minor store survives = record (without_vanished store (vanishes store survives)) {
   settled = births_where store.kept (λ x. is_settled store.settled x || settles store survives x);

@@ -15,6 +15,7 @@ use Rattle.store_model.specs.Reach.{Tells, Reaches}
 abbrev pub copied : List (Option ℕ) → ℕ → List (Option ℕ) → ℕ → ℕ → List (Option ℕ)
 copied refs item others other_item count = take item refs ++ (slice_range others other_item (other_item + count) ++ drop (item + count) refs)
 
+-- an object with these references
 abbrev pub with_refs : List (Option ℕ) → Object → Object
 with_refs refs object = record object { refs = refs }
 
@@ -30,6 +31,7 @@ abbrev pub IsRevived : List Object → Option ℕ → ℕ → Type 0
 IsRevived kept None y = ⊥
 IsRevived kept (Some x) y = Reaches kept x y
 
+-- the store where what the test tells is neither unreached nor doomed
 abbrev pub without_revived : (ℕ → Bool) → Store → Store
 without_revived revived store = record store {
   unreached = filter (λ x. not (revived x)) store.unreached;
@@ -46,6 +48,7 @@ pub record Revives (old : Store) (birth : Option ℕ) (new : Store) : Type 0 whe
 abbrev pub target_at : Store → ℕ → Option ℕ
 target_at store root = target_in (object_in store.slots store.kept root)
 
+-- one more registered object, at the end
 abbrev pub registered_with : List (ℕ × ℕ) → Option ℕ → ℕ → List (ℕ × ℕ)
 registered_with registered None queue = registered
 registered_with registered (Some birth) queue = registered ++ (birth, queue) ∷ []
@@ -56,6 +59,7 @@ register_slot store root queue = record store {
   registered = registered_with store.registered (held store.slots root) queue;
 }
 
+-- the first of a queue
 abbrev pub first_of : Option (List ℕ) → Option ℕ
 first_of None = None
 first_of (Some []) = None
@@ -72,6 +76,7 @@ without_first queues queue (Some (birth ∷ (next ∷ rest))) = with_value queue
 abbrev pub next_of : Store → ℕ → Option ℕ
 next_of store queue = first_of (value_at store.queues queue)
 
+-- the store with the first of a queue in a slot
 abbrev pub take_next : Store → ℕ → ℕ → Store
 take_next store to queue = record (put_in_slot store to (next_of store queue)) {
   queues = without_first store.queues queue (value_at store.queues queue);
@@ -82,21 +87,26 @@ abbrev pub structs_linked : Table Struct → Bool → ℕ → Option ℕ → Boo
 structs_linked structs p number None light own = structs
 structs_linked structs p number (Some birth) light own = with_value structs number (Linked p light birth own)
 
+-- the store with a structure linked with the object in a slot
 abbrev pub link_struct : Store → Bool → ℕ → ℕ → Bool → ℕ → Store
 link_struct store p number root light own =
     record store { structs = structs_linked store.structs p number (held store.slots root) light own }
 
+-- the structures, with the own count of what is found at a number one more
 abbrev pub raised_at : Table Struct → ℕ → Option Struct → Table Struct
 raised_at structs number None = structs
 raised_at structs number (Some structure) = with_value structs number (raised structure)
 
+-- and one less
 abbrev pub lowered_at : Table Struct → ℕ → Option Struct → Table Struct
 lowered_at structs number None = structs
 lowered_at structs number (Some structure) = with_struct structs number (lowered structure)
 
+-- the store with the own count of a structure one more
 abbrev pub raise_struct : Store → ℕ → Store
 raise_struct store number = record store { structs = raised_at store.structs number (value_at store.structs number) }
 
+-- and one less
 abbrev pub lower_struct : Store → ℕ → Store
 lower_struct store number = record store { structs = lowered_at store.structs number (value_at store.structs number) }
 
@@ -119,6 +129,7 @@ take_dead_struct store = record store {
   dead = (take_dead store.structs store.dead).dead;
 }
 
+-- the oldest pending structure
 abbrev pub first_number : List ℕ → Option ℕ
 first_number [] = None
 first_number (number ∷ rest) = Some number

@@ -17,9 +17,11 @@ objects_where kept test = filter (λ object. test object.birth) kept
 abbrev pub births_where : List Object → (ℕ → Bool) → List ℕ
 births_where kept test = map (λ object. object.birth) (objects_where kept test)
 
+-- whether it is a root
 abbrev pub is_root : Store → ℕ → Bool
 is_root store x = is_in x (roots_of store)
 
+-- whether it is registered
 abbrev pub is_registered : Store → ℕ → Bool
 is_registered store x = is_in x (registered_births store)
 

@@ -27,13 +27,13 @@ pub record Store : Type 0 where
   pub queues : Table (List ℕ)  -- the finalizer queues that are not empty
   pub structs : Table Struct  -- the C structures by their numbers
   pub dead : List ℕ  -- the pending structures, the oldest first
-  pub phase : Phase
+  pub phase : Phase  -- of the major collection
   pub threshold : ℕ  -- the old words at which a major step is due
   pub fresh : ℕ  -- the words that were born settled since the last minor collection
   pub gapped : Bool  -- whether some object was pinned when the last minor collection ended
-  pub visited : List ℕ
-  pub unreached : List ℕ
-  pub doomed : List ℕ
+  pub visited : List ℕ  -- the settled objects that marking visited
+  pub unreached : List ℕ  -- the settled objects that no root reached when marking began, and that were not revived
+  pub doomed : List ℕ  -- the objects that were not retained when marking began, and that were not revived
   pub left : ℕ  -- how many sweeping steps may still come
 
 -- the store before the first command

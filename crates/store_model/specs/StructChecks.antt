@@ -52,6 +52,7 @@ link_checks found p has = (not (is_absent found), StructUsed) ∷ (p && has, Has
 abbrev pub struct_checks : StructState → Checks
 struct_checks found = (is_absent found, NoStruct) ∷ []
 
+-- whether a structure is pending
 abbrev pub is_pending : StructState → Bool
 is_pending state.Absent = false
 is_pending (state.Linked p light own) = false

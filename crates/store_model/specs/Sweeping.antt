@@ -32,20 +32,27 @@ after_sweep store freed phase = record (without_husks store freed) {
   left = store.left - 1;
 }
 
+-- whether a husk lies in a page, and whether it is large
+abbrev pub is_small : Settings → ℕ × ℕ → Bool
+is_small settings husk = nat_le husk.1 (small_words settings)
+
+abbrev pub is_large : Settings → ℕ × ℕ → Bool
+is_large settings husk = nat_lt (small_words settings) husk.1
+
 -- the sweep stays in its phase only where steps are left, and ends only where no husk is
-abbrev pub CanBe : Phase → Store → Type 0
-CanBe Scanning new = ⊥
-CanBe Marking new = ⊥
-CanBe Sweeping new = 0 < new.left
-CanBe Finalizing new = new.husks ≡ []
+abbrev pub MayEndIn : Phase → Store → Type 0
+MayEndIn Scanning new = ⊥
+MayEndIn Marking new = ⊥
+MayEndIn Sweeping new = 0 < new.left
+MayEndIn Finalizing new = new.husks ≡ []
 
 -- any husks may be freed, within the bounds of a step
 pub record SweepingStep (settings : Settings) (old : Store) (lines : List Line) (new : Store) : Type 0 where
   pub freed : ℕ → Bool
   pub phase : Phase
-  pub few_small : husk_words (filter (λ husk. nat_le husk.1 (small_words settings)) (husks_where old.husks freed)) ≤ settings.sweep * settings.page
-  pub few_large : length (filter (λ husk. nat_lt (small_words settings) husk.1) (husks_where old.husks freed)) ≤ settings.sweep
-  pub can_be : CanBe phase new
+  pub few_small : husk_words (filter (is_small settings) (husks_where old.husks freed)) ≤ settings.sweep * settings.page
+  pub few_large : length (filter (is_large settings) (husks_where old.husks freed)) ≤ settings.sweep
+  pub may_end : MayEndIn phase new
   pub printed : lines ≡ Stepped Sweeping phase ∷ map (λ husk. Freed husk.0) (husks_where old.husks freed)
   pub leaves : new ≡ after_sweep old freed phase
 
@@ -55,6 +62,7 @@ queues_with queues [] = queues
 queues_with queues (entry ∷ entries) =
     queues_with (with_value queues entry.1 (unwrap_or (value_at queues entry.1) [] ++ entry.0 ∷ [])) entries
 
+-- at most 182 percent of the old words, at most 140 percent of the last threshold, and at least the minimum
 abbrev pub next_threshold : ℕ → ℕ → ℕ → ℕ
 next_threshold minimum words threshold = max minimum (min (words * 182 / 100) (threshold * 140 / 100))
 
@@ -62,10 +70,12 @@ next_threshold minimum words threshold = max minimum (min (words * 182 / 100) (t
 abbrev pub threshold_after : Settings → Store → ℕ
 threshold_after settings store = next_threshold settings.minimum (old_words store) store.threshold
 
+-- the lines of the last step of a cycle
 abbrev pub finalizing_lines : Settings → Store → List Line
 finalizing_lines settings store =
     Stepped Finalizing Scanning ∷ (map (λ entry. Queued entry.0 entry.1) store.chosen ++ ThresholdIs (threshold_after settings store) ∷ [])
 
+-- the store after the last step of a cycle
 abbrev pub after_finalizing : Settings → Store → Store
 after_finalizing settings store = record store {
   chosen = [];

@@ -28,6 +28,7 @@ pub record Room : Type 0 where
   pub fresh : ℕ
   pub counted : ℕ
 
+-- of a store
 abbrev pub room_of : Store → Room
 room_of store = record {
   unsettled = unsettled_words store.kept store.settled;
