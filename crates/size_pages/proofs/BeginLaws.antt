@@ -78,6 +78,18 @@ new_unused pages m o n room live waiting f k low high =
     let top : page_at size (pages.count + pages.pages_per_arena) ≤ 1099511627776 = g.below in
     arena_words_same m o n (page_at size k) ∙ word_at-none m.blocks (page_at size k) (o.free (page_at size k) (omega arith) (omega arith))
 
+-- nor is word 7 of their headers written
+new_lasts : (pages : Pages) (m : Memory) → IsInOrder m → IsInOrder (with_arena m) → pages.count + pages.pages_per_arena ≤ vec_capacity pages.order → (live : List Extent) (waiting : List ℕ) → HasBlocks pages m live waiting → (k : ℕ) → pages.count ≤ k → k < pages.count + pages.pages_per_arena → word_in (with_arena m) (page_at pages.page k + 7) ≡ 0
+new_lasts pages m o n room live waiting f k low high =
+    let size = pages.page in
+    let wide : 64 ≤ size = f.blocks.size_low in
+    let g = arena_fits pages m o n room live waiting f in
+    let end : m.next_arena ≡ page_at size (pages.count + 0) = f.end in
+    let base : page_at size (pages.count + 0) ≤ page_at size k = page_mono size (pages.count + 0) k (omega arith) in
+    let part : page_at size k + size ≤ page_at size (pages.count + pages.pages_per_arena) = pages_part size k (pages.count + pages.pages_per_arena) high in
+    let top : page_at size (pages.count + pages.pages_per_arena) ≤ 1099511627776 = g.below in
+    arena_words_same m o n (page_at size k + 7) ∙ word_at-none m.blocks (page_at size k + 7) (o.free (page_at size k + 7) (omega arith) (omega arith))
+
 pub arena_can_list : (pages : Pages) (m m1 : Memory) → Stands pages m → pages.count + pages.pages_per_arena ≤ vec_capacity pages.order → 2 * pages.small + 2 ≤ length pages.heads.items → IsInOrder m → IsInOrder m1 → m1 ≡ with_arena m → CanList pages m1 pages.pages_per_arena
 arena_can_list pages m m1 st room long o n e =
     let n1 : IsInOrder (with_arena m) = subst IsInOrder e n in
@@ -89,6 +101,7 @@ arena_can_list pages m m1 st room long o n e =
       fits = arena_fits pages m o n1 room st.live st.waiting st.fits;
       enough = omega arith;
       unused = new_unused pages m o n1 room st.live st.waiting st.fits;
+      lasts = new_lasts pages m o n1 room st.live st.waiting st.fits;
       heads = long;
     })
 

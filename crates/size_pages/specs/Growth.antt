@@ -68,6 +68,7 @@ pub record CanList (pages : Pages) (m : Memory) (n : ℕ) : Type 0 where
   pub fits : HasBlocksBut pages m live waiting 0 spare
   pub enough : n ≤ spare
   pub unused : (k : ℕ) → pages.count ≤ k → k < pages.count + spare → word_in m (page_at pages.page k) ≡ 0
+  pub lasts : (k : ℕ) → pages.count ≤ k → k < pages.count + spare → word_in m (page_at pages.page k + 7) ≡ 0
   pub heads : 2 * pages.small + 2 ≤ length pages.heads.items
 
 -- so many pages more are counted, and are on the list of the unused ones
@@ -79,6 +80,7 @@ pub record ListsPages (old new : Pages) (m after : Memory) (n : ℕ) : Type 0 wh
   pub listed : (live : List Extent) (waiting : List ℕ) (spare : ℕ) → HasBlocksBut old m live waiting 0 (spare + n) → HasBlocksBut new after live waiting 0 spare
   pub kept : (live : List Extent) (waiting : List ℕ) (spare : ℕ) → HasBlocksBut old m live waiting 0 (spare + n) → KeepsWords m after live
   pub classes : (k : ℕ) → word_in after (page_at old.page k) ≡ word_in m (page_at old.page k)
+  pub lasts : (k : ℕ) → word_in after (page_at old.page k + 7) ≡ word_in m (page_at old.page k + 7)
   pub arenas : IsInArenas m after
 
 -- an arena is added, with all its pages unused
