@@ -4,3 +4,4 @@ pub mod VisitStep
 pub mod MarkLoop
 pub mod FrameLaws
 pub mod ClosureLaws
+pub mod TwoObjects

@@ -1,4 +1,4 @@
-//! Marking in steps. The places of objects that marking has met and not yet visited wait in a gray
+//! Marking in steps, as in PyPy's incremental collector. The places of objects that marking has met and not yet visited wait in a gray
 //! list, first in, first out.
 #![tactic(auto)]
 
@@ -67,7 +67,9 @@ impl Gray {
     /// `visited` in that order. A visit sets the flag Visited in the object's first word, and queues
     /// the places outside the nursery that it refers to, in item order. What carries the flag, and
     /// what the nursery holds, is passed over. It stops as soon as the words of the objects visited
-    /// in this call reach the budget. In the space nothing but the flag changes.
+    /// in this call reach the budget. In the space nothing but the flag changes. (The flag and the
+    /// budget are PyPy's, where what was met last is visited first; this order is this project's
+    /// own.)
     ///
     /// Without memory the list and the space are spent, and `visited` still begins with what it
     /// held.
