@@ -85,6 +85,8 @@ impl Weaks {
             (weaks_left nursery.now.words (word_at space.old.blocks) self.old)) cleared.old.items cleared.new.items) }
         ensures front { StartsWith cleared.new.items cleared.old.items }
     {
+        // The places of a space are above 0.
+        let _ordered = space.arena_words();
         drop_vanished(&mut self.places, space, nursery);
         let told = cleared.len();
         follow_targets(&self.places, space, types, nursery, cleared)?;
@@ -126,7 +128,8 @@ impl Weaks {
     {
         self.places.retain(
             |a: &u64| -> bool
-                ensures { result ≡ not (is_in a.now dead.now) }
+                requires { IsNonDecreasing dead.now }
+                ensures { result ≡ not (is_in a.now dead.entry.now) }
             { !holds(dead, *a) },
         );
     }
