@@ -42,3 +42,15 @@ mapped-so-far f [] zero l = absurd (omega (arith, l))
 mapped-so-far f [] (suc i) l = absurd (omega (arith, l))
 mapped-so-far f (x ∷ xs) zero l = (omega arith, refl)
 mapped-so-far f (x ∷ xs) (suc i) l = let rest = mapped-so-far f xs i (omega (arith, l)) in let low = rest.0 in (omega (arith, low), rest.1)
+
+pub from-take : (x : ℕ) (i : ℕ) (xs : List ℕ) → IsTrue (is_in x (take i xs)) → IsTrue (is_in x xs)
+from-take x i [] t = t-none i t
+  where
+    t-none : (i : ℕ) → IsTrue (is_in x (take i [])) → IsTrue (is_in x [])
+    t-none zero t = t
+    t-none (suc i) t = t
+from-take x zero (y ∷ xs) t = absurd (is_in-nil x t)
+from-take x (suc i) (y ∷ xs) t = elim (is_in-cases x y (take i xs) t) [
+  | inl e ↦ let P : ℕ → Type 0 = λ k. IsTrue (is_in x (k ∷ xs)) in subst P e (is_in-head x xs)
+  | inr u ↦ is_in-tail x y xs (from-take x i xs u)
+]

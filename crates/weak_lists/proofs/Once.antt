@@ -1,7 +1,7 @@
 -- Each member once, as a list grows.
 use Rattle.std.proofs.Common.{◌≡◌, ℕ, ◌⊎◌, Bool, true, false, IsTrue, List, [], ◌∷◌, ◌++◌, refl, sym, ap, ◌∙◌, subst, inl, inr}
 use Rattle.std.specs.Prelude.{◌==◌, ◌||◌}
-use Rattle.std.proofs.lemmas.Bool.{cases_Bool}
+use Rattle.std.proofs.lemmas.Bool.Decides.{eqb_tells}
 use Rattle.object_model.specs.Sets.{is_in}
 use Rattle.object_view.proofs.WordLaws.{is_in-head, is_in-tail, is_in-cases, is_in-nil}
 use Rattle.weak_lists.specs.Cleared.{once_after}
@@ -47,3 +47,23 @@ once-new seen (y ∷ xs) x none new =
     go true e same other = rw e same
     go false e same other = rw e (ap (λ l. y ∷ l) other)
 
+-- no place comes twice
+abbrev pub AreDifferent : List ℕ → Type 0
+AreDifferent [] = Unit {0}
+AreDifferent (x ∷ xs) = (is_in x xs ≡ false) × AreDifferent xs
+
+once-unseen : (seen xs : List ℕ) → ((x : ℕ) → IsTrue (is_in x xs) → is_in x seen ≡ false) → AreDifferent xs → once_after seen xs ≡ xs
+once-unseen seen [] new differ = refl
+once-unseen seen (x ∷ xs) new differ =
+    rw (new x (is_in-head x xs)) (ap (λ l. x ∷ l) (once-unseen (x ∷ seen) xs (λ y t. unseen y t (x == y) refl) differ.1))
+  where
+    unseen : (y : ℕ) → IsTrue (is_in y xs) → (b : Bool) → (x == y) ≡ b → is_in y (x ∷ seen) ≡ false
+    unseen y t true e = absurd (let there : IsTrue (is_in x xs) = same-in x y xs (equal x y e) t in let none = differ.0 in let no : ⊥ = cc in no)
+      where
+        equal : (a b : ℕ) → (a == b) ≡ true → a ≡ b
+        equal a b e = elim (eqb_tells a b) [ inl z ↦ z.1 | inr n ↦ absurd (let f = n.0 in let no : ⊥ = cc in no) ]
+    unseen y t false e = rw e (new y (is_in-tail y x xs t))
+
+-- then each once is just the list
+pub once-different : (xs : List ℕ) → AreDifferent xs → once_after [] xs ≡ xs
+once-different xs differ = once-unseen [] xs (λ x t. refl) differ

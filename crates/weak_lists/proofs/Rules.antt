@@ -17,13 +17,19 @@ use Rattle.object_model.specs.Sets.{is_in}
 use Rattle.object_model.specs.ObjectWords.{words_at, info_at}
 use Rattle.object_view.specs.Moving.{place_now}
 use Rattle.object_view.specs.Views.{HasObject}
+use Rattle.object_view.proofs.WordLaws.{is_in-nil}
 use Rattle.object_view.proofs.LayoutLaws.{laid_out}
 use Rattle.object_view.proofs.SpaceLaws.{lies-at, lies-fits}
 use Rattle.object_view.proofs.SurvivorLaws.{filter-part}
 use Rattle.weak_lists.specs.Targets.{is_outside, survives, weaks_left, is_gone, followed, is_unvisited, kept_target, target_at}
 use Rattle.weak_lists.specs.Conditions.{AreObjects, HasMoved, IsFollowed, CanFollow, CanClear, CanSettle, CanRead}
+use Rattle.weak_lists.proofs.TargetLaws.{followed-there, followed-gone}
 use Rattle.weak_lists.proofs.Lists.{mapped-from}
 use Rattle.weak_lists.proofs.Settling.{Agrees, AreWeak, IsRule, head-same, target-inside}
+
+and-false : (b : Bool) → (b && false) ≡ false
+and-false true = refl
+and-false false = refl
 
 none-outside : (nursery : ℕ) → is_outside nursery 0 ≡ false
 none-outside nursery = grind (arith, nat_tests)
@@ -39,7 +45,7 @@ place_now-left : (w : ℕ → ℕ) (x : ℕ) → (x == 0) ≡ false → w x ≡ 
 place_now-left w x some marked = rw (some, eq-eqb (w x) 18446744073709551615 marked) refl
 
 -- marking
-module _ {types : Table TypeInfo} {nursery : ℕ} {first : Memory} {left all : List ℕ} (a : AreWeak types first left all) where
+module _ (nursery : ℕ) {types : Table TypeInfo} {first : Memory} {left all : List ℕ} (a : AreWeak types first left all) where
   pub clear-rule : IsRule types (word_at first.blocks) left (λ t. IsTrue (is_outside nursery t) → IsTrue (is_in t all)) (kept_target nursery) (is_unvisited nursery)
   clear-rule = record {
     same = λ v t agrees passes. same-test v t agrees passes (is_outside nursery t) refl;
@@ -80,6 +86,12 @@ clear-weak c = record { objects = c.objects; there = c.there; weak = c.weak }
 
 pub settle-weak : {types : Table TypeInfo} {memory : Memory} {left all : List ℕ} → CanSettle types memory left all → AreWeak types memory left all
 settle-weak c = record { objects = c.objects; there = c.there; weak = c.weak }
+
+-- the first word of an object is there
+pub first-there : {types : Table TypeInfo} {first : Memory} {left all : List ℕ} → AreWeak types first left all → (q : ℕ) → IsTrue (is_in q all) → has first.blocks q ≡ true
+first-there {types = types} {first = first} a q u =
+    let laid = laid_out types (word_at first.blocks) q in
+    lies-at first.blocks q (words_at types (word_at first.blocks) q) q (a.objects.whole q u).whole (omega arith) (omega (arith, laid.header))
 
 -- a minor collection
 abbrev pub Follows : Table TypeInfo → Memory → List ℕ → ℕ → Type 0
@@ -122,6 +134,10 @@ module _ {types : Table TypeInfo} {first : Memory} {left all : List ℕ} (a : Ar
   is-now t some (inr h) =
       let P : ℕ → Type 0 = λ k. IsTrue (is_in k all) in
       record { there = subst P (sym (place_now-left (word_at first.blocks) t some h.marked)) h.there; two = h.readable }
+
+  pub two-read : (t : ℕ) → IsFollowed types first all t → IsTrue (lies_in_one first.blocks t 2)
+  two-read t (inl u) = two-words t u
+  two-read t (inr h) = h.readable
 
   -- the words that tell where a target is stay
   stays-two : (v : ℕ → ℕ) → Agrees types (word_at first.blocks) v left → (t : ℕ) → IsFollowed types first all t → (v t ≡ word_at first.blocks t) × (v (t + 1) ≡ word_at first.blocks (t + 1))
@@ -167,18 +183,15 @@ module _ {types : Table TypeInfo} {first : Memory} {left all : List ℕ} (a : Ar
           by-survival : (x q : ℕ) → (x == 0) ≡ false → q ≡ place_now (word_at first.blocks) x → IsTrue (is_in q all) → (s : Bool) → survives nursery (word_at first.blocks) q ≡ s
               → Stays types first all nursery (followed nursery (word_at first.blocks) x)
           by-survival x q some is there true s =
-              let stays : followed nursery (word_at first.blocks) x ≡ q = rw (some, ← is, s) refl in
+              let stays : followed nursery (word_at first.blocks) x ≡ q = sym (followed-there nursery (word_at first.blocks) x x q refl is s) in
               let self : place_now (word_at first.blocks) q ≡ q = place_now-self (word_at first.blocks) q (unmoved q there) in
-              let here : is_gone nursery (word_at first.blocks) q ≡ false = rw (self, s) (last (q == 0)) in
+              let here : is_gone nursery (word_at first.blocks) q ≡ false = rw (self, s) (and-false (not (q == 0))) in
               let same : followed nursery (word_at first.blocks) q ≡ q = rw here self in
               subst (Stays types first all nursery) (sym stays) (inr (inl there), (same, here))
           by-survival x q some is there false s =
-              let nil : followed nursery (word_at first.blocks) x ≡ 0 = rw (some, ← is, s) refl in
+              let nil : followed nursery (word_at first.blocks) x ≡ 0 =
+              sym (followed-gone nursery (word_at first.blocks) x x q refl (λ z. (let full = eq-eqb x 0 z in let no : ⊥ = cc in no)) is s) in
               subst (Stays types first all nursery) (sym nil) (nil-stays types first all nursery)
-
-          last : (b : Bool) → (not b && false) ≡ false
-          last true = refl
-          last false = refl
 
   -- what can be read of a target
   pub follow-reads : (m : Memory) (t : ℕ) → Agrees types (word_at first.blocks) (word_at m.blocks) left → (extents : map extent_of m.blocks ≡ map extent_of first.blocks) → Follows types first all t
@@ -202,6 +215,19 @@ module _ {types : Table TypeInfo} {first : Memory} {left all : List ℕ} (a : Ar
     ])
   ]
 
+no-zero : (memory : Memory) (x : ℕ) → IsInOrder memory → IsTrue (lies_in_one memory.blocks x 2) → x ≡ 0 → ⊥
+no-zero memory x o lies z = let f = lies-fits memory x 2 o (omega arith) lies in let low = f.0 in omega (arith, z, low)
+
+-- the weak objects of the list can be followed
+pub read-held : {types : Table TypeInfo} {nursery : ℕ} {memory : Memory} {weaks all : List ℕ} → IsInOrder memory → CanFollow types nursery memory weaks all → (x : ℕ) → IsTrue (is_in x weaks)
+    → CanRead memory x
+read-held {types = types} {memory = memory} {all = all} o c x t =
+    let a : AreWeak types memory [] all = record { objects = c.objects; there = λ p u. absurd (is_in-nil p u); weak = λ p u. absurd (is_in-nil p u) } in
+    elim (follow-reads a c.unmoved memory x (record { elsewhere = λ b none. refl }) refl (inr (c.followed x t))) [
+      | inl z ↦ absurd (no-zero memory x o (two-read a c.unmoved x (c.followed x t)) z)
+      | inr can ↦ can
+    ]
+
 -- the weak objects that are left can be looked at
 pub settle-left : {types : Table TypeInfo} {nursery : ℕ} {memory : Memory} {weaks all : List ℕ} → IsInOrder memory → CanFollow types nursery memory weaks all
     → CanSettle types memory (weaks_left nursery (word_at memory.blocks) weaks) all
@@ -217,16 +243,13 @@ settle-left {types = types} {nursery = nursery} {memory = memory} {weaks = weaks
     there-now x f = elim (eqb_tells x 0) [
       | inl z ↦ elim f [
         | inl u ↦ (let P : ℕ → Type 0 = λ k. IsTrue (is_in k all) in subst P (sym (place_now-self (word_at memory.blocks) x (c.unmoved x u))) u)
-        | inr h ↦ absurd (h-zero z.1 h)
+        | inr h ↦ absurd (no-zero memory x o h.readable z.1)
       ]
       | inr n ↦ elim f [
         | inl u ↦ (let P : ℕ → Type 0 = λ k. IsTrue (is_in k all) in subst P (sym (place_now-self (word_at memory.blocks) x (c.unmoved x u))) u)
         | inr h ↦ (let P : ℕ → Type 0 = λ k. IsTrue (is_in k all) in subst P (sym (place_now-left (word_at memory.blocks) x n.0 h.marked)) h.there)
       ]
     ]
-
-    h-zero : {x : ℕ} → x ≡ 0 → HasMoved types memory all x → ⊥
-    h-zero {x} z h = let f = lies-fits memory x 2 o (omega arith) h.readable in let low = f.0 in omega (arith, z, low)
 
     at : (p : ℕ) → IsTrue (is_in p (weaks_left nursery (word_at memory.blocks) weaks)) → (P : ℕ → Type 0)
         → ((x : ℕ) → IsTrue (is_in x weaks) → IsTrue (survives nursery (word_at memory.blocks) (place_now (word_at memory.blocks) x)) → P (place_now (word_at memory.blocks) x)) → P p

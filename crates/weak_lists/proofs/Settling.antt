@@ -86,11 +86,11 @@ module _ {types : Table TypeInfo} {first : Memory} {left all : List ℕ} (a : Ar
           header = λ l. omega (arith, head, l);
           birth_stays = head-same q (q + 1) u (omega arith) (omega arith);
           layout_stays = layout_at-same types v (word_at first.blocks) q type_stays (λ begins wide. agrees.elsewhere (q + 2) (λ p t e.
-          let inside = target-inside p t in
-          let laid = laid_out types (word_at first.blocks) q in
-          let is : q ≡ p = a.objects.apart q p (q + 2) u (a.there p t) (omega arith, omega (arith, wide)) (omega (arith, e, inside.0.0), omega (arith, e, inside.0.1)) in
-          let same : target_place types (word_at first.blocks) p ≡ target_place types (word_at first.blocks) q = ap (target_place types (word_at first.blocks)) (sym is) in
-          absurd (omega (arith, e, same, begins, laid.ordered))));
+              let inside = target-inside p t in
+              let laid = laid_out types (word_at first.blocks) q in
+              let is : q ≡ p = a.objects.apart q p (q + 2) u (a.there p t) (omega arith, omega (arith, wide)) (omega (arith, e, inside.0.0), omega (arith, e, inside.0.1)) in
+              let same : target_place types (word_at first.blocks) p ≡ target_place types (word_at first.blocks) q = ap (target_place types (word_at first.blocks)) (sym is) in
+              absurd (omega (arith, e, same, begins, laid.ordered))));
         }
 
     pub target_place-same : (p : ℕ) → IsTrue (is_in p left) → target_place types v p ≡ target_place types (word_at first.blocks) p

@@ -1,4 +1,4 @@
-use Rattle.std.proofs.Common.{sym}
+use Rattle.std.proofs.Common.{sym, ◌∙◌}
 use Rattle.heap_space.specs.Places.{word_at}
 use Rattle.weak_lists.specs.Targets.{kept_target, target_at}
 use Rattle.weak_lists.proofs.TargetLaws.{target-item, target-read, target-set, kept-gone}
@@ -16,4 +16,4 @@ returns-clause-target c =
     target-set c.args.types.now c.args.space.now c.set_ref.new.space c.args.a c.view-v.result 0
     (kept_target c.args.nursery.now.words w (target_at c.args.types.now w c.args.a)) c.requires.object c.view-v.ensures.value c.requires.weak c.set_ref.ensures
     (kept-gone c.args.nursery.now.words w (target_at c.args.types.now w c.args.a) c.ref_at-target.result
-    (target-read c.args.types.now w c.args.a c.view-v.result c.ref_at-target.result c.view-v.ensures.value c.ref_at-target.ensures) (let e = c.if-not-is_unvisited in ?))
+    (target-read c.args.types.now w c.args.a c.view-v.result c.ref_at-target.result c.view-v.ensures.value c.ref_at-target.ensures) (sym c.is_unvisited.ensures ∙ c.if-not-is_unvisited.false))
