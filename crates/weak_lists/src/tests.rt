@@ -3,7 +3,7 @@
 ghost use Rattle.std.specs.Prelude.{◌≡◌, [], ◌∷◌, Some, false, IfOk};
 ghost use Rattle.type_table.specs.Table.{value_at};
 ghost use Rattle.type_table.specs.declared.info.Shape.TheVariants.{Weak};
-ghost use Rattle.weak_lists.specs.Conditions.{CanClear, CanFollow};
+ghost use Rattle.weak_lists.specs.Conditions.{CanClear};
 
 use super::*;
 use std::test::Fail;
