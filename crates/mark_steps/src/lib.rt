@@ -1,5 +1,5 @@
-//! Marking in steps, as in PyPy's incremental collector. The places of objects that marking has met and not yet visited wait in a gray
-//! list, first in, first out.
+//! Marking in steps, as in PyPy's incremental collector. The places of objects that marking has met
+//! and not yet visited wait in a gray list, first in, first out.
 #![tactic(auto)]
 
 ghost use Rattle.std.specs.Prelude.{◌≡◌, ◌++◌, ◌∷◌, ◌<◌, ℕ, List, [], IfOk, OnOk, OnErr};
