@@ -1,9 +1,9 @@
 -- One visit: the objects keep types, births, layouts and references, and marking can go on.
-use Rattle.std.proofs.Common.{◌≡◌, ◌≢◌, ℕ, ◌+◌, ◌%◌, ◌<◌, ◌≤◌, Bool, true, false, IsTrue, List, [], ◌∷◌, ◌++◌, filter, refl, sym, ap, ap₂, ◌∙◌, subst, inl, inr, arith}
+use Rattle.std.proofs.Common.{◌≡◌, ◌≢◌, ℕ, ◌+◌, ◌%◌, ◌<◌, ◌≤◌, true, IsTrue, List, ◌∷◌, ◌++◌, filter, refl, sym, ap, ◌∙◌, subst, inl, inr, arith}
 use Rattle.std.proofs.lemmas.Bool.Decides.{eqb_tells}
 use Rattle.type_table.specs.declared.info.TypeInfo.{TypeInfo}
 use Rattle.type_table.specs.Table.{Table}
-use Rattle.heap_space.specs.Places.{has, word_at, lies_in_one}
+use Rattle.heap_space.specs.Places.{has, word_at}
 use Rattle.heap_space.specs.Memory.{Memory}
 use Rattle.heap_space.proofs.Blocks.{lies-with_word}
 use Rattle.object_header.specs.Words.{with_flag}
@@ -13,7 +13,7 @@ use Rattle.object_model.specs.Layout.{Layout}
 use Rattle.object_model.specs.Sets.{is_in}
 use Rattle.object_model.specs.ObjectWords.{words_from, updated, type_id_at, layout_at, words_at}
 use Rattle.object_view.specs.Views.{HasObject}
-use Rattle.object_view.proofs.WordLaws.{updated-here, updated-other, words_from-same, is_in-head, is_in-tail}
+use Rattle.object_view.proofs.WordLaws.{updated-here, updated-other, words_from-same, is_in-tail}
 use Rattle.object_view.proofs.LayoutLaws.{KeepsLayout, SameAt, keeps-same, laid_out, layout_at-same}
 use Rattle.object_view.proofs.ChangeLaws.{covers-kept}
 use Rattle.object_view.proofs.SpaceLaws.{word_at-written, lies-at}

@@ -1,4 +1,4 @@
-use Rattle.std.proofs.Common.{◌≡◌, ◌++◌, ◌∷◌, [], true, false, List, ℕ, filter, ap, sym, ◌∙◌, subst}
+use Rattle.std.proofs.Common.{ap, sym, ◌∙◌}
 use Rattle.heap_space.specs.Places.{word_at}
 use Rattle.mark_steps.specs.Visits.{is_outside}
 use Rattle.mark_steps.proofs.Refs.{refs-queued, refs-passed}
