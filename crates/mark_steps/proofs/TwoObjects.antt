@@ -1,5 +1,5 @@
 -- Two objects of two references each, as the test writes them.
-use Rattle.std.proofs.Common.{◌≡◌, ℕ, ◌+◌, ◌<◌, ◌≤◌, false, true, IsTrue, List, [], ◌∷◌, ◌++◌, Some, filter, refl, sym, ap, ap₂, ◌∙◌, subst, inl, inr, arith}
+use Rattle.std.proofs.Common.{◌≡◌, ℕ, ◌+◌, false, true, IsTrue, List, [], ◌∷◌, ◌++◌, Some, filter, refl, sym, ap, ap₂, ◌∙◌, subst, inl, inr, arith}
 use Rattle.std.specs.Prelude.{IsSome}
 use Rattle.type_table.specs.declared.info.Shape.TheVariants.{Fixed}
 use Rattle.type_table.specs.declared.info.TypeInfo.{TypeInfo}
@@ -10,7 +10,7 @@ use Rattle.object_model.specs.Layout.{Layout, layout_of}
 use Rattle.object_model.specs.Sets.{is_in}
 use Rattle.object_model.specs.ObjectWords.{words_from, info_or_weak, layout_at, words_at, Covers}
 use Rattle.object_view.specs.Views.{HasObject}
-use Rattle.object_model.proofs.Members.{is_in-head, is_in-tail, is_in-cases, is_in-nil}
+use Rattle.object_view.proofs.WordLaws.{is_in-tail, is_in-cases, is_in-nil}
 use Rattle.nursery_gaps.specs.Nursery.{Layout as Nursery, unused}
 use Rattle.mark_steps.specs.declared.MarkEnd.{MarkEnd}
 use Rattle.mark_steps.specs.Ends.{Marks}

@@ -1,5 +1,5 @@
-//! Marking in steps, as in PyPy's incremental collector. The places of objects that marking has met and not yet visited wait in a gray
-//! list, first in, first out.
+//! Marking in steps, as in PyPy's incremental collector. The places of objects that marking has met
+//! and not yet visited wait in a gray list, first in, first out.
 #![tactic(auto)]
 
 ghost use Rattle.std.specs.Prelude.{◌≡◌, ◌++◌, ◌∷◌, ◌<◌, ℕ, List, [], IfOk, OnOk, OnErr};
@@ -64,12 +64,12 @@ impl Gray {
         Ok(())
     }
     /// Visits the objects whose places wait, first in, first out, and appends their births to
-    /// `visited` in that order. A visit sets the flag Visited in the object's first word, and queues
-    /// the places outside the nursery that it refers to, in item order. What carries the flag, and
-    /// what the nursery holds, is passed over. It stops as soon as the words of the objects visited
-    /// in this call reach the budget. In the space nothing but the flag changes. (The flag and the
-    /// budget are PyPy's, where what was met last is visited first; this order is this project's
-    /// own.)
+    /// `visited` in that order. A visit sets the flag Visited in the object's first word, and
+    /// queues the places outside the nursery that it refers to, in item order. What carries the
+    /// flag, and what the nursery holds, is passed over. It stops as soon as the words of the
+    /// objects visited in this call reach the budget. In the space nothing but the flag changes.
+    /// (The flag and the budget are PyPy's, where what was met last is visited first; this order
+    /// is this project's own.)
     ///
     /// Without memory the list and the space are spent, and `visited` still begins with what it
     /// held.
@@ -82,7 +82,8 @@ impl Gray {
         visited: &mut Vec<u64>,
     ) -> Result<MarkEnd, AllocError>
         requires budget { 0 < budget }
-        requires sound { (places : List ℕ) × CanVisit types.now nursery.now.words space.old self.old places }
+        requires sound { (places : List ℕ)
+            × CanVisit types.now nursery.now.words space.old self.old places }
         ensures ok { IfOk result (Marks types.now nursery.now.words budget
             space.old self.old visited.old.items space.new self.new visited.new.items) }
         ensures front { StartsWith visited.new.items visited.old.items }

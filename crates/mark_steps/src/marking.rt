@@ -27,7 +27,8 @@ pub(crate) fn visit_all(
     visited: &mut Vec<u64>,
 ) -> Result<MarkEnd, AllocError>
     requires budget { 0 < budget }
-    requires sound { (all : List ℕ) × CanVisit types.now nursery.now.words space.old places.old.items all }
+    requires sound { (all : List ℕ)
+        × CanVisit types.now nursery.now.words space.old places.old.items all }
     ensures ok { IfOk result (Marks types.now nursery.now.words budget
         space.old places.old.items visited.old.items space.new places.new.items visited.new.items) }
     ensures front { StartsWith visited.new.items visited.old.items }
@@ -91,8 +92,8 @@ fn push_refs(
     a: u64,
 ) -> Result<(), AllocError>
     requires { HasView space.now v a }
-    ensures { OnOk result (places.new.items ≡ places.old.items
-        ++ filter (is_outside nursery.now.words) (words_from (word_at space.now.blocks) v.ref_start v.ref_count)) }
+    ensures { OnOk result (places.new.items ≡ places.old.items ++ filter (is_outside nursery.now.words)
+        (words_from (word_at space.now.blocks) v.ref_start v.ref_count)) }
 {
     for i in 0..v.ref_count {
         let to = ref_at(space, v, a, i);

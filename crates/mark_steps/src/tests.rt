@@ -10,7 +10,8 @@ use type_table::{Shape, TypeFault, TypeInfo};
 
 // A table in which objects of type 0 have two references.
 fn pairs(alloc: Global) -> Result<TypeTable, TypeFault>
-    ensures { IfOk result (λ table. value_at table 0 ≡ Some (record { shape = Shape.Fixed 0 2; destructor = false })) }
+    ensures { IfOk result (λ table.
+        value_at table 0 ≡ Some (record { shape = Shape.Fixed 0 2; destructor = false })) }
 {
     let mut table = TypeTable::new(alloc).map_err(|_| TypeFault::OutOfMemory)?;
     let info = TypeInfo {
@@ -21,8 +22,8 @@ fn pairs(alloc: Global) -> Result<TypeTable, TypeFault>
     Ok(table)
 }
 
-// A space with two objects of type 0, of births 7 and 8, in the first words of an arena. Each refers to the other, the first
-// to place 5 of the nursery too, and the second to itself.
+// A space with two objects of type 0, of births 7 and 8, in the first words of an arena. Each refers
+// to the other, the first to place 5 of the nursery too, and the second to itself.
 fn two_objects(alloc: Global, types: &TypeTable) -> Result<Space, AllocError>
     requires { value_at types.now 0 ≡ Some (record { shape = Shape.Fixed 0 2; destructor = false }) }
     ensures { IfOk result (λ space.

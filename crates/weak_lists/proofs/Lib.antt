@@ -6,3 +6,4 @@ pub mod Once
 pub mod Settling
 pub mod Rules
 pub mod TargetLaws
+pub mod TwoWeak

@@ -1,18 +1,17 @@
 -- Where objects are now, and which of them are left.
-use Rattle.std.proofs.Common.{◌≡◌, ◌≢◌, ℕ, ◌+◌, ◌^◌, ◌<◌, ◌≤◌, ◌⊎◌, Bool, true, false, IsTrue, List, [], ◌∷◌, map, filter, refl, sym, ap, ap₂, ◌∙◌, subst, inl, inr, arith}
-use Rattle.std.specs.Prelude.{◌==◌, not, if◌then◌else◌}
-use Rattle.std.proofs.lemmas.Bool.{cases_Bool, eq-eqb, ne_eqb}
+use Rattle.std.proofs.Common.{◌≡◌, ℕ, ◌+◌, ◌^◌, ◌<◌, ◌≤◌, Bool, true, false, IsTrue, List, [], ◌∷◌, map, filter, refl, sym, ap, ◌∙◌, arith}
+use Rattle.std.specs.Prelude.{◌==◌, not}
+use Rattle.std.proofs.lemmas.Bool.{ne_eqb}
 use Rattle.heap_space.specs.Places.{has, word_at, lies_in_one}
 use Rattle.heap_space.specs.Memory.{Memory}
 use Rattle.heap_space.specs.Order.{IsInOrder}
 use Rattle.heap_space.proofs.Rising.{has-within}
 use Rattle.object_model.specs.Sets.{is_in}
 use Rattle.object_view.specs.Moving.{place_now}
-use Rattle.object_model.proofs.Members.{is_in-head, is_in-tail}
+use Rattle.object_view.proofs.WordLaws.{is_in-head, is_in-tail}
 use Rattle.object_view.proofs.SpaceLaws.{lies-fits, lies-at}
 use Rattle.object_view.proofs.ForwardLaws.{place_now-moved}
 use Rattle.weak_lists.specs.Targets.{survives, weaks_left, left_at}
-use Rattle.weak_lists.specs.Conditions.{CanRead}
 
 -- two words that can be read
 pub record HasTwo (memory : Memory) (a : ℕ) : Type 0 where

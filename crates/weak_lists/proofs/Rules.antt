@@ -1,7 +1,7 @@
 -- The two rules for targets: they follow what moved in a minor collection, and stay where marking visited them.
-use Rattle.std.proofs.Common.{◌≡◌, ◌≢◌, ℕ, ◌+◌, ◌<◌, ◌≤◌, ◌⊎◌, Bool, true, false, IsTrue, List, [], ◌∷◌, map, refl, sym, ap, ap₂, ◌∙◌, subst, inl, inr, arith}
-use Rattle.std.specs.Prelude.{◌==◌, ◌&&◌, ◌||◌, not, nat_lt, if◌then◌else◌}
-use Rattle.std.proofs.lemmas.Bool.{cases_Bool, eq-eqb, ne_eqb}
+use Rattle.std.proofs.Common.{◌≡◌, ◌≢◌, ℕ, ◌+◌, ◌<◌, ◌≤◌, ◌⊎◌, Bool, true, false, IsTrue, List, [], map, refl, sym, ap, ap₂, ◌∙◌, subst, inl, inr, arith}
+use Rattle.std.specs.Prelude.{◌==◌, ◌&&◌, ◌||◌, not, if◌then◌else◌}
+use Rattle.std.proofs.lemmas.Bool.{eq-eqb, ne_eqb}
 use Rattle.std.proofs.lemmas.Bool.Decides.{eqb_tells, nat_tests}
 use Rattle.type_table.specs.declared.info.Shape.TheVariants.{Weak}
 use Rattle.type_table.specs.declared.info.TypeInfo.{TypeInfo}
@@ -16,13 +16,12 @@ use Rattle.object_header.specs.declared.flags.Flag.TheVariants.{Pinned, Visited}
 use Rattle.object_model.specs.Sets.{is_in}
 use Rattle.object_model.specs.ObjectWords.{words_at, info_at}
 use Rattle.object_view.specs.Moving.{place_now}
-use Rattle.object_view.specs.Views.{HasObject}
-use Rattle.object_model.proofs.Members.{is_in-nil}
+use Rattle.object_view.proofs.WordLaws.{is_in-nil}
 use Rattle.object_view.proofs.LayoutLaws.{laid_out}
 use Rattle.object_view.proofs.SpaceLaws.{lies-at, lies-fits}
-use Rattle.object_model.proofs.Members.{filter-part}
+use Rattle.object_view.proofs.SurvivorLaws.{filter-part}
 use Rattle.weak_lists.specs.Targets.{is_outside, survives, weaks_left, is_gone, followed, is_unvisited, kept_target, target_at}
-use Rattle.weak_lists.specs.Conditions.{AreObjects, HasMoved, IsFollowed, CanFollow, CanClear, CanSettle, CanRead}
+use Rattle.weak_lists.specs.Conditions.{IsFollowed, CanFollow, CanClear, CanSettle, CanRead}
 use Rattle.weak_lists.proofs.TargetLaws.{followed-there, followed-gone}
 use Rattle.weak_lists.proofs.Lists.{mapped-from}
 use Rattle.weak_lists.proofs.Settling.{Agrees, AreWeak, IsRule, head-same, target-inside}

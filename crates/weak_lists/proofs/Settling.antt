@@ -1,6 +1,6 @@
 -- Targets that change one after another. A rule tells what becomes of a target and whether it is gone, by the words.
 use Rattle.std.proofs.Common.{◌≡◌, ◌≢◌, ℕ, ◌+◌, ◌%◌, ◌<◌, ◌≤◌, ◌⊎◌, Bool, true, false, IsTrue, List, [], ◌∷◌, ◌++◌, map, filter, append-nil, append_assoc, refl, sym, ap, ◌∙◌, subst, inl, inr, arith}
-use Rattle.std.specs.Prelude.{◌==◌, if◌then◌else◌}
+use Rattle.std.specs.Prelude.{if◌then◌else◌}
 use Rattle.std.proofs.lemmas.Bool.{cases_Bool}
 use Rattle.std.proofs.lemmas.Bool.Decides.{eqb_tells}
 use Rattle.std.proofs.lemmas.List.{map-append}
@@ -8,20 +8,20 @@ use Rattle.std.proofs.lemmas.List.Elements.{filter-append}
 use Rattle.type_table.specs.declared.info.Shape.TheVariants.{Weak}
 use Rattle.type_table.specs.declared.info.TypeInfo.{TypeInfo}
 use Rattle.type_table.specs.Table.{Table}
-use Rattle.heap_space.specs.Places.{has, word_at, lies_in_one}
+use Rattle.heap_space.specs.Places.{has, word_at}
 use Rattle.heap_space.specs.Memory.{Memory}
-use Rattle.heap_space.specs.Extents.{extent_of, lies_within}
+use Rattle.heap_space.specs.Extents.{lies_within}
 use Rattle.heap_space.proofs.ExtentLaws.{has-by_extents, lies_in_one-extents}
 use Rattle.object_model.specs.Layout.{Layout}
 use Rattle.object_model.specs.Sets.{is_in}
-use Rattle.object_model.specs.ObjectWords.{type_id_at, info_at, layout_at, words_at, Covers}
+use Rattle.object_model.specs.ObjectWords.{type_id_at, info_at, Covers}
 use Rattle.object_view.specs.Views.{HasObject}
-use Rattle.object_model.proofs.Members.{is_in-head, is_in-nil, is_in-last, is_in-before, is_in-append}
+use Rattle.object_view.proofs.WordLaws.{is_in-nil, is_in-last, is_in-before, is_in-append}
 use Rattle.object_view.proofs.LayoutLaws.{KeepsLayout, laid_out, weak-at, layout_at-same, info_at-same}
 use Rattle.object_view.proofs.WholeLaws.{has_object-keeps}
 use Rattle.weak_lists.specs.Targets.{target_place, target_at, ChangesTargets, SetsWord}
 use Rattle.weak_lists.specs.Conditions.{AreObjects}
-use Rattle.weak_lists.specs.Cleared.{StartsWith, once_after, births_losing}
+use Rattle.weak_lists.specs.Cleared.{once_after, births_losing}
 use Rattle.weak_lists.proofs.Once.{once-again, once-new}
 
 -- words that differ from others in no word but targets of these objects

@@ -65,8 +65,8 @@ impl Weaks {
     /// Follows the weak objects and their targets through a minor collection that has moved what it
     /// moves. A weak object that moved is listed at its new place, and one that vanished no longer.
     /// The targets of the listed ones follow, and one that vanished becomes nil. The births of the
-    /// weak objects whose targets vanished are appended to `cleared` in rising order. What is in the
-    /// nursery survived exactly where it moved or is pinned. In the space nothing but targets
+    /// weak objects whose targets vanished are appended to `cleared` in rising order. What is in
+    /// the nursery survived exactly where it moved or is pinned. In the space nothing but targets
     /// changes. (Which targets are cleared is PyPy's rule; the order is this project's own.)
     ///
     /// Without memory the list and the space are spent, and `cleared` still begins with what it
@@ -78,13 +78,17 @@ impl Weaks {
         nursery: &Nursery,
         cleared: &mut Vec<u64>,
     ) -> Result<(), AllocError>
-        requires { (places : List ℕ) × CanFollow types.now nursery.now.words space.old self.old places }
-        ensures left { OnOk result (self.new ≡ weaks_left nursery.now.words (word_at space.old.blocks) self.old) }
-        ensures targets { OnOk result (ChangesTargets types.now (followed nursery.now.words (word_at space.old.blocks))
-            space.old space.new (weaks_left nursery.now.words (word_at space.old.blocks) self.old)) }
+        requires { (places : List ℕ)
+            × CanFollow types.now nursery.now.words space.old self.old places }
+        ensures left { OnOk result
+            (self.new ≡ weaks_left nursery.now.words (word_at space.old.blocks) self.old) }
+        ensures targets { OnOk result (ChangesTargets types.now
+            (followed nursery.now.words (word_at space.old.blocks)) space.old space.new
+            (weaks_left nursery.now.words (word_at space.old.blocks) self.old)) }
         ensures told { OnOk result (TellsInOrder (births_losing types.now (word_at space.old.blocks)
             (is_gone nursery.now.words (word_at space.old.blocks))
-            (weaks_left nursery.now.words (word_at space.old.blocks) self.old)) cleared.old.items cleared.new.items) }
+            (weaks_left nursery.now.words (word_at space.old.blocks) self.old))
+            cleared.old.items cleared.new.items) }
         ensures front { StartsWith cleared.new.items cleared.old.items }
     {
         // The places of a space are above 0.
@@ -109,12 +113,14 @@ impl Weaks {
         nursery: &Nursery,
         cleared: &mut Vec<u64>,
     ) -> Result<(), AllocError>
-        requires { (places : List ℕ) × CanClear types.now nursery.now.words space.old self.old places }
+        requires { (places : List ℕ)
+            × CanClear types.now nursery.now.words space.old self.old places }
         ensures left { self.new ≡ self.old }
-        ensures targets { OnOk result (ChangesTargets types.now (kept_target nursery.now.words (word_at space.old.blocks))
-            space.old space.new self.old) }
+        ensures targets { OnOk result (ChangesTargets types.now
+            (kept_target nursery.now.words (word_at space.old.blocks)) space.old space.new self.old) }
         ensures told { OnOk result (TellsInOrder (births_losing types.now (word_at space.old.blocks)
-            (is_unvisited nursery.now.words (word_at space.old.blocks)) self.old) cleared.old.items cleared.new.items) }
+            (is_unvisited nursery.now.words (word_at space.old.blocks)) self.old)
+            cleared.old.items cleared.new.items) }
         ensures front { StartsWith cleared.new.items cleared.old.items }
     {
         let told = cleared.len();

@@ -18,7 +18,8 @@ const MOVED: u64 = u64::MAX;
 /// Lists the objects that survived at the places where they are now, and drops the others.
 pub(crate) fn drop_vanished(places: &mut Vec<u64>, space: &Space, nursery: &Nursery)
     requires { (x : ℕ) → IsTrue (is_in x places.old.items) → CanRead space.now x }
-    ensures { places.new.items ≡ weaks_left nursery.now.words (word_at space.now.blocks) places.old.items }
+    ensures { places.new.items
+        ≡ weaks_left nursery.now.words (word_at space.now.blocks) places.old.items }
 {
     // The places of a space are above 0.
     let _ordered = space.arena_words();
@@ -33,7 +34,8 @@ pub(crate) fn drop_vanished(places: &mut Vec<u64>, space: &Space, nursery: &Nurs
 // Puts for each place the one where its object is now, and 0 where it vanished.
 fn follow_places(places: &mut Vec<u64>, space: &Space, nursery: &Nursery)
     requires { (x : ℕ) → IsTrue (is_in x places.old.items) → CanRead space.now x }
-    ensures { places.new.items ≡ map (left_at nursery.now.words (word_at space.now.blocks)) places.old.items }
+    ensures { places.new.items
+        ≡ map (left_at nursery.now.words (word_at space.now.blocks)) places.old.items }
 {
     for place in places.iter_mut() {
         *place = place_left(space, nursery, *place);

@@ -27,9 +27,10 @@ pub(crate) fn follow_targets(
     cleared: &mut Vec<u64>,
 ) -> Result<(), AllocError>
     requires { (all : List ℕ) × CanSettle types.now space.old places.now all }
-    ensures targets { OnOk result (ChangesTargets types.now (followed nursery.now.words (word_at space.old.blocks))
-        space.old space.new places.now) }
-    ensures told { OnOk result (cleared.new.items ≡ cleared.old.items ++ births_losing types.now (word_at space.old.blocks)
+    ensures targets { OnOk result (ChangesTargets types.now
+        (followed nursery.now.words (word_at space.old.blocks)) space.old space.new places.now) }
+    ensures told { OnOk result (cleared.new.items
+        ≡ cleared.old.items ++ births_losing types.now (word_at space.old.blocks)
         (is_gone nursery.now.words (word_at space.old.blocks)) places.now) }
     ensures front { StartsWith cleared.new.items cleared.old.items }
 {
@@ -52,10 +53,12 @@ fn follow_target(
     requires target { (target_at types.now (word_at space.old.blocks) a ≡ 0)
         ⊎ CanRead space.old (target_at types.now (word_at space.old.blocks) a) }
     ensures target { OnOk result (SetsWord (target_place types.now (word_at space.old.blocks) a)
-        (followed nursery.now.words (word_at space.old.blocks) (target_at types.now (word_at space.old.blocks) a))
+        (followed nursery.now.words (word_at space.old.blocks)
+        (target_at types.now (word_at space.old.blocks) a))
         space.old space.new) }
     ensures told { OnOk result (cleared.new.items ≡ cleared.old.items
-        ++ (if is_gone nursery.now.words (word_at space.old.blocks) (target_at types.now (word_at space.old.blocks) a)
+        ++ (if is_gone nursery.now.words (word_at space.old.blocks)
+        (target_at types.now (word_at space.old.blocks) a)
         then word_at space.old.blocks (a + 1) ∷ [] else [])) }
     ensures front { StartsWith cleared.new.items cleared.old.items }
 {
@@ -84,9 +87,10 @@ pub(crate) fn clear_unvisited(
     cleared: &mut Vec<u64>,
 ) -> Result<(), AllocError>
     requires { (all : List ℕ) × CanClear types.now nursery.now.words space.old places.now all }
-    ensures targets { OnOk result (ChangesTargets types.now (kept_target nursery.now.words (word_at space.old.blocks))
-        space.old space.new places.now) }
-    ensures told { OnOk result (cleared.new.items ≡ cleared.old.items ++ births_losing types.now (word_at space.old.blocks)
+    ensures targets { OnOk result (ChangesTargets types.now
+        (kept_target nursery.now.words (word_at space.old.blocks)) space.old space.new places.now) }
+    ensures told { OnOk result (cleared.new.items
+        ≡ cleared.old.items ++ births_losing types.now (word_at space.old.blocks)
         (was_unvisited nursery.now.words (word_at space.old.blocks)) places.now) }
     ensures front { StartsWith cleared.new.items cleared.old.items }
 {
@@ -96,7 +100,8 @@ pub(crate) fn clear_unvisited(
     Ok(())
 }
 
-// Clears the target of one weak object and appends the object's birth, if marking did not visit the target.
+// Clears the target of one weak object and appends the object's birth, if marking did not visit
+// the target.
 fn clear_target(
     space: &mut Space,
     types: &TypeTable,
@@ -106,13 +111,16 @@ fn clear_target(
 ) -> Result<(), AllocError>
     requires object { HasObject space.old types.now a }
     requires weak { (info_at types.now (word_at space.old.blocks) a).shape ≡ Weak }
-    requires target { IsTrue (lies_outside nursery.now.words (target_at types.now (word_at space.old.blocks) a))
+    requires target { IsTrue (lies_outside nursery.now.words
+        (target_at types.now (word_at space.old.blocks) a))
         → IsTrue (has space.old.blocks (target_at types.now (word_at space.old.blocks) a)) }
     ensures target { OnOk result (SetsWord (target_place types.now (word_at space.old.blocks) a)
-        (kept_target nursery.now.words (word_at space.old.blocks) (target_at types.now (word_at space.old.blocks) a))
+        (kept_target nursery.now.words (word_at space.old.blocks)
+        (target_at types.now (word_at space.old.blocks) a))
         space.old space.new) }
     ensures told { OnOk result (cleared.new.items ≡ cleared.old.items
-        ++ (if was_unvisited nursery.now.words (word_at space.old.blocks) (target_at types.now (word_at space.old.blocks) a)
+        ++ (if was_unvisited nursery.now.words (word_at space.old.blocks)
+        (target_at types.now (word_at space.old.blocks) a)
         then word_at space.old.blocks (a + 1) ∷ [] else [])) }
     ensures front { StartsWith cleared.new.items cleared.old.items }
 {

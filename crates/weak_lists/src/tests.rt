@@ -3,7 +3,7 @@
 ghost use Rattle.std.specs.Prelude.{◌≡◌, [], ◌∷◌, Some, false, IfOk};
 ghost use Rattle.type_table.specs.Table.{value_at};
 ghost use Rattle.type_table.specs.declared.info.Shape.TheVariants.{Weak};
-ghost use Rattle.weak_lists.specs.Conditions.{CanClear, CanFollow};
+ghost use Rattle.weak_lists.specs.Conditions.{CanClear};
 
 use super::*;
 use std::test::Fail;
@@ -11,7 +11,8 @@ use type_table::{Shape, TypeFault, TypeInfo};
 
 // A table in which objects of type 0 are weak.
 fn weak_type(alloc: Global) -> Result<TypeTable, TypeFault>
-    ensures { IfOk result (λ table. value_at table 0 ≡ Some (record { shape = Weak; destructor = false })) }
+    ensures { IfOk result (λ table.
+        value_at table 0 ≡ Some (record { shape = Weak; destructor = false })) }
 {
     let mut table = TypeTable::new(alloc).map_err(|_| TypeFault::OutOfMemory)?;
     let info = TypeInfo {
@@ -22,7 +23,8 @@ fn weak_type(alloc: Global) -> Result<TypeTable, TypeFault>
     Ok(table)
 }
 
-// A space with two weak objects of births 7 and 8 in the first words of an arena. The target of each is the other.
+// A space with two weak objects of births 7 and 8 in the first words of an arena. The target of
+// each is the other.
 fn two_weak(alloc: Global, types: &TypeTable) -> Result<Space, AllocError>
     requires { value_at types.now 0 ≡ Some (record { shape = Weak; destructor = false }) }
     ensures { IfOk result (λ space.

@@ -1,7 +1,7 @@
-use Rattle.std.proofs.Common.{[], ◌∷◌, ℕ, ◌∙◌, sym, subst}
+use Rattle.std.proofs.Common.{[], ◌∷◌, sym, subst}
 use Rattle.heap_space.specs.Memory.{Memory}
 use Rattle.mark_steps.specs.Visits.{CanVisit}
-use Rattle.mark_steps.proofs.TwoObjects.{two_objects, five-written, last-place, last-written, two-visits}
+use Rattle.mark_steps.proofs.TwoObjects.{five-written, last-place, last-written, two-visits}
 use Rattle.mark_steps.proofs.tests.two_objects.Goals as goal
 
 pub write-requires-6 : goal.write-requires-6

@@ -1,4 +1,4 @@
-use Rattle.std.proofs.Common.{ℕ, List, get_or, take, sym, subst}
+use Rattle.std.proofs.Common.{ℕ, List, get_or, sym, subst}
 use Rattle.std.proofs.lemmas.List.{take_more}
 use Rattle.heap_space.specs.Places.{word_at}
 use Rattle.weak_lists.specs.Targets.{is_unvisited, kept_target}
