@@ -1,6 +1,6 @@
 //! Objects with finalizers, and lists of them.
 
-ghost use Rattle.std.specs.Prelude.{◌≡◌, ◌+◌, ◌≤◌, ◌++◌, IsFalse, IfSome, IfNone, length, slice_get, option_map, Some, vec_len, vec_capacity};
+ghost use Rattle.std.specs.Prelude.{◌≡◌, ◌==◌, ◌+◌, position, ◌≤◌, ◌++◌, IsFalse, IfSome, IfNone, length, slice_get, option_map, Some, vec_len, vec_capacity};
 ghost use Rattle.object_model.specs.Sets.{is_in};
 ghost use Rattle.finalizer_order.specs.Finalizers.{places_of};
 
@@ -31,8 +31,7 @@ pub(crate) fn index_from(entries: &[Entry], from: usize, place: u64) -> Option<u
 
 // The index of the first entry with the place.
 fn index_of(entries: &[Entry], place: u64) -> Option<usize>
-    ensures found { IfSome result (λ k. option_map (λ entry. entry.place) (slice_get entries.now k) ≡ Some place) }
-    ensures none { IfNone result (IsFalse (is_in place (places_of entries.now))) }
+    ensures { result ≡ position (λ entry. entry.place == place) entries.now }
 {
     entries.iter().position(|entry| entry.place == place)
 }

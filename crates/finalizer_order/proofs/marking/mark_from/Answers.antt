@@ -1,4 +1,4 @@
-use Rattle.std.proofs.Common.{◌≡◌, ℕ, [], ◌+◌, ◌<◌, ◌≤◌, length, get_or, sym, ap, ◌∙◌, arith}
+use Rattle.std.proofs.Common.{[], ◌<◌, ◌≤◌, length, ◌∙◌, arith}
 use Rattle.object_view.proofs.WordLaws.{is_in-head}
 use Rattle.std.proofs.lemmas.List.{get_or_default}
 use Rattle.finalizer_order.proofs.Objects.{has-place}
