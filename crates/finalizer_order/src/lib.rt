@@ -52,7 +52,8 @@ pub struct Finals {
 }
 
 impl Model for Finals {
-    ghost use Rattle.std.specs.Prelude.{length};
+    ghost use Rattle.std.specs.Prelude.{length, nat_eq};
+    ghost use Rattle.indexmap.specs.IndexSet.{contains};
     ghost use Rattle.finalizer_order.specs.Finalizers.{Finalizers};
     ghost use Rattle.finalizer_order.specs.Queues.{tabled};
     ghost use Rattle.finalizer_order.specs.Listed.{AreListed};
@@ -66,7 +67,7 @@ impl Model for Finals {
       queues = tabled 0 f.queues.items;
     } };
 
-    ghost invariant = { λ f. AreListed f.births.keys f.registered.items f.chosen.items f.queues.items };
+    ghost invariant = { λ f. AreListed (contains nat_eq f.births) f.registered.items f.chosen.items f.queues.items };
 }
 
 impl Finals {
