@@ -6,7 +6,7 @@ use Rattle.std.proofs.lemmas.Bool.Decides.{eqb_tells, nat_tests}
 use Rattle.std.proofs.lemmas.List.Sums.{sum_by-append}
 use Rattle.type_table.specs.Table.{Table, value_at, with_value, without_key}
 use Rattle.finalizer_order.specs.declared.entry.Entry.{Entry}
-use Rattle.finalizer_order.specs.Finalizers.{queued_entries}
+use Rattle.finalizer_order.specs.Finalizers.{Finalizers, queued_entries}
 use Rattle.finalizer_order.specs.Queues.{first_of, without_first, next_place, take_next, queues_with, tabled, AreInRange, push_all, joined}
 use Rattle.finalizer_order.specs.Listed.{times_of}
 
@@ -134,14 +134,14 @@ get-there (q ∷ qs) (suc k) d l = get-there qs k d (omega (arith, l))
 
 -- Objects that enter their queues.
 
-length-set' : (qs : List (List Entry)) (k : ℕ) (l : List Entry) → length (set qs k l) ≡ length qs
-length-set' [] k l = refl
-length-set' (q ∷ qs) zero l = refl
-length-set' (q ∷ qs) (suc k) l = ap suc (length-set' qs k l)
+pub length-queues : (qs : List (List Entry)) (k : ℕ) (l : List Entry) → length (set qs k l) ≡ length qs
+length-queues [] k l = refl
+length-queues (q ∷ qs) zero l = refl
+length-queues (q ∷ qs) (suc k) l = ap suc (length-queues qs k l)
 
 pub length-push_all : (qs : List (List Entry)) (es : List Entry) → length (push_all qs es) ≡ length qs
 length-push_all qs [] = refl
-length-push_all qs (e ∷ es) = length-push_all (set qs e.queue (get_or qs e.queue [] ++ e ∷ [])) es ∙ length-set' qs e.queue (get_or qs e.queue [] ++ e ∷ [])
+length-push_all qs (e ∷ es) = length-push_all (set qs e.queue (get_or qs e.queue [] ++ e ∷ [])) es ∙ length-queues qs e.queue (get_or qs e.queue [] ++ e ∷ [])
 
 unwrapped : (l : List Entry) → unwrap_or (filled (Some l)) [] ≡ l
 unwrapped [] = refl
@@ -166,7 +166,7 @@ pub pushed : (qs : List (List Entry)) (es : List Entry) → AreInRange (length q
 pushed qs [] r = refl
 pushed qs (e ∷ es) r =
     let now : List (List Entry) = set qs e.queue (get_or qs e.queue [] ++ e ∷ []) in
-    pushed now es (subst (λ (n : ℕ). AreInRange n es) (sym (length-set' qs e.queue (get_or qs e.queue [] ++ e ∷ []))) r.1)
+    pushed now es (subst (λ (n : ℕ). AreInRange n es) (sym (length-queues qs e.queue (get_or qs e.queue [] ++ e ∷ []))) r.1)
     ∙ ap (λ (t : Table (List Entry)). queues_with t es) (pushed-one qs e r.0)
 
 pub push_all-last : (qs : List (List Entry)) (es : List Entry) (e : Entry) → push_all qs (es ++ e ∷ []) ≡ set (push_all qs es) e.queue (get_or (push_all qs es) e.queue [] ++ e ∷ [])
@@ -194,3 +194,35 @@ joined-empty (suc n) = joined-empty n
 pub tabled-empty : (k n : ℕ) → tabled k (replicate n []) ≡ []
 tabled-empty k zero = refl
 tabled-empty k (suc n) = tabled-empty (k + 1) n
+
+-- What `next` leaves, over the fields.
+
+abbrev pub finals_of : ℕ → List Entry → List Entry → Table (List Entry) → Finalizers
+finals_of queue_count registered chosen queues = record { queue_count = queue_count; registered = registered; chosen = chosen; queues = queues }
+
+abbrev pub view_of : List Entry → List Entry → List (List Entry) → Finalizers
+view_of registered chosen queues = finals_of (length queues) registered chosen (tabled 0 queues)
+
+pub next_view : (qs : List (List Entry)) (k : ℕ) (l x : List Entry) (registered chosen : List Entry) (f : Finalizers) → view_of registered chosen qs ≡ f → slice_get qs k ≡ Some l → x ≡ drop 1 l
+    → view_of registered chosen (set qs k x) ≡ record f { queues = take_next f.queues k }
+next_view qs k l x registered chosen f is there rest =
+    subst (λ (g : Finalizers). view_of registered chosen (set qs k x) ≡ record g { queues = take_next g.queues k }) is
+    (ap₂ (λ (n : ℕ) (t : Table (List Entry)). finals_of n registered chosen t) (length-queues qs k x) (ap (λ (y : List Entry). tabled 0 (set qs k y)) rest ∙ (takes_next qs k l there).rest))
+
+pub next_first : (qs : List (List Entry)) (k : ℕ) (l : List Entry) (registered chosen : List Entry) (f : Finalizers) → view_of registered chosen qs ≡ f → slice_get qs k ≡ Some l
+    → option_map (λ (e : Entry). e.place) (slice_get l 0) ≡ next_place f.queues k
+next_first qs k l registered chosen f is there =
+    (takes_next qs k l there).place ∙ ap (λ (g : Finalizers). next_place g.queues k) is
+
+pub none_first : (qs : List (List Entry)) (k : ℕ) (registered chosen : List Entry) (f : Finalizers) → view_of registered chosen qs ≡ f → length qs ≤ k → next_place f.queues k ≡ None
+none_first qs k registered chosen f is out =
+    ap (λ (g : Finalizers). next_place g.queues k) (sym is) ∙ ap (λ (v : Option (List Entry)). option_map (λ (e : Entry). e.place) (first_of v)) (takes_none qs k out)
+
+pub none_taken : (qs : List (List Entry)) (k : ℕ) (registered chosen : List Entry) (f : Finalizers) → view_of registered chosen qs ≡ f → length qs ≤ k → f ≡ record f { queues = take_next f.queues k }
+none_taken qs k registered chosen f is out =
+    subst (λ (g : Finalizers). g ≡ record g { queues = take_next g.queues k }) is
+    (ap (finals_of (length qs) registered chosen) (sym (ap (without_first (tabled 0 qs) k) (takes_none qs k out))))
+
+pub unset : (qs : List (List Entry)) (k : ℕ) (l : List Entry) → slice_get qs k ≡ Some l → slice_get l 0 ≡ None → set qs k (drop 1 l) ≡ qs
+unset qs k [] there none = set-nothing qs k there
+unset qs k (x ∷ xs) there none = absurd (let no : ⊥ = cc in no)
