@@ -11,3 +11,4 @@ pub mod FlagWords
 pub mod RunSteps
 pub mod QueueLaws
 pub mod Listing
+pub mod ChooseSteps
