@@ -12,3 +12,4 @@ pub mod RunSteps
 pub mod QueueLaws
 pub mod Listing
 pub mod ChooseSteps
+pub mod QueueSteps

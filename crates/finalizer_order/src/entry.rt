@@ -39,7 +39,9 @@ fn index_of(entries: &[Entry], place: u64) -> Option<usize>
 /// Appends the places of entries to a list that has room for them.
 pub(crate) fn append_places(entries: &[Entry], places: &mut Vec<u64>)
     requires { vec_len places.old + length entries.now ≤ vec_capacity places.old }
-    ensures { places.new.items ≡ places.old.items ++ places_of entries.now }
+    ensures items { places.new.items ≡ places.old.items ++ places_of entries.now }
+    ensures used { vec_len places.new ≤ vec_len places.old + length entries.now }
+    ensures room { vec_capacity places.new ≡ vec_capacity places.old }
 {
     for entry in entries {
         places.push_reserved(entry.place);

@@ -52,14 +52,15 @@ impl Queue {
         self.entries.pop_front()
     }
 
-    /// Appends the places of the objects that wait. Without memory nothing is appended, or some are.
+    /// Appends the places of the objects that wait. Without memory nothing is appended.
     fn append(&self, places: &mut Vec<u64>) -> Result<(), AllocError>
         ensures ok { OnOk result (places.new.items ≡ places.old.items ++ places_of self.now) }
-        ensures err { OnErr result (BeginsWith places.old.items places.new.items) }
+        ensures err { OnErr result (places.new.items ≡ places.old.items) }
     {
-        for entry in self.entries.iter() {
-            places.push(entry.place)?;
-        }
+        let (front, back) = self.entries.as_slices();
+        places.reserve(front.len() + back.len())?;
+        append_places(front, places);
+        append_places(back, places);
         Ok(())
     }
 }
@@ -69,8 +70,8 @@ pub(crate) fn empty_queues(alloc: Global, count: usize) -> Result<Vec<Queue>, Al
     ensures { IfOk result (λ queues. queues.items ≡ replicate count []) }
 {
     let mut queues = Vec::with_capacity(alloc, count)?;
-    for _ in 0..count {
-        queues.push_reserved(Queue::new(alloc));
+    for _made in 0..count {
+        queues.push(Queue::new(alloc))?;
     }
     Ok(queues)
 }
