@@ -24,6 +24,10 @@ pub on_ok-map : {T E P Q : Type 0} → (r : Result T E) → (P → Q) → OnOk r
 on_ok-map (Ok x) f p = f p
 on_ok-map (Err e) f p = tt
 
+pub on_ok-both : {T E P Q S : Type 0} → (r : Result T E) → (P → Q → S) → OnOk r P → OnOk r Q → OnOk r S
+on_ok-both (Ok x) f p q = f p q
+on_ok-both (Err e) f p q = tt
+
 pub settled : {T E : Type 0} → (r : Result T E) (marked : List ℕ) (old new : Memory) (before after births sorted : List ℕ) → after ≡ (if is_ok r then before ++ sorted else before)
     → new ≡ changed settled_word marked old → births ≡ map (λ p. word_at old.blocks (p + 1)) marked → IsPermutation births sorted → IsNonDecreasing sorted → OnOk r (Settles marked old new before after)
 settled (Ok x) marked old new before after births sorted listed written are same rising = record {

@@ -226,3 +226,16 @@ none_taken qs k registered chosen f is out =
 pub unset : (qs : List (List Entry)) (k : ℕ) (l : List Entry) → slice_get qs k ≡ Some l → slice_get l 0 ≡ None → set qs k (drop 1 l) ≡ qs
 unset qs k [] there none = set-nothing qs k there
 unset qs k (x ∷ xs) there none = absurd (let no : ⊥ = cc in no)
+
+pub same-queue : (qs : List (List Entry)) (k : ℕ) (l : List Entry) → k < length qs → l ≡ get_or qs k l → set qs k l ≡ qs
+same-queue [] k l m e = refl
+same-queue (q ∷ qs) zero l m e = ap (λ (p : List Entry). p ∷ qs) e
+same-queue (q ∷ qs) (suc k) l m e = ap (λ (ps : List (List Entry)). q ∷ ps) (same-queue qs k l (omega (arith, m)) e)
+
+-- and what `flush` leaves
+pub flush_view : (qs after : List (List Entry)) (registered chosen left : List Entry) (f : Finalizers) → view_of registered chosen qs ≡ f → AreInRange (length qs) chosen → after ≡ push_all qs chosen → left ≡ []
+    → view_of registered left after ≡ record f { chosen = []; queues = queues_with f.queues f.chosen }
+flush_view qs after registered chosen left f is r queued none =
+    subst (λ (g : Finalizers). view_of registered left after ≡ record g { chosen = []; queues = queues_with g.queues g.chosen }) is
+    (ap₂ (λ (es : List Entry) (ks : List (List Entry)). view_of registered es ks) none queued
+    ∙ ap₂ (λ (n : ℕ) (t : Table (List Entry)). finals_of n registered [] t) (length-push_all qs chosen) (pushed qs chosen r))

@@ -1,7 +1,7 @@
 -- The chosen objects enter their queues, one after the other.
 use Rattle.std.proofs.Common.{◌≡◌, ℕ, zero, suc, ◌+◌, ◌<◌, List, [], ◌∷◌, ◌++◌, length, set, get_or, take, map, reverse, refl, sym, ap, ap₂, ◌∙◌, subst, arith, append_assoc}
 use Rattle.std.specs.Prelude.{flat_map}
-use Rattle.std.proofs.lemmas.List.{append-nil, map-append, reverse-append, reverse-reverse}
+use Rattle.std.proofs.lemmas.List.{get_or_default, append-nil, map-append, reverse-append, reverse-reverse}
 use Rattle.finalizer_order.specs.declared.entry.Entry.{Entry}
 use Rattle.finalizer_order.specs.Finalizers.{places_of, placed}
 use Rattle.finalizer_order.specs.Queues.{AreInRange, push_all, joined}
@@ -90,6 +90,11 @@ module _ {qs : List (List Entry)} {es : List Entry} {told : List (ℕ × ℕ)} (
         listed = listed ∙ ap (λ (k : List (ℕ × ℕ)). k ++ (x.place, x.queue) ∷ []) s.listed ∙ append_assoc told (placed s.gone) ((x.place, x.queue) ∷ [])
             ∙ ap (λ (k : List (ℕ × ℕ)). told ++ k) (sym (map-append (λ (e : Entry). (e.place, e.queue)) s.gone (x ∷ [])));
       }
+
+      -- the same, from what the calls say
+      pub queues_pushed : (l more : List Entry) → l ≡ get_or now x.queue l → more ≡ l ++ x ∷ [] → QueuesSome qs es told (set now x.queue more) less (tells ++ (x.place, x.queue) ∷ [])
+      queues_pushed l more is pushed = queues_next (set now x.queue more) (tells ++ (x.place, x.queue) ∷ [])
+          (ap (set now x.queue) (pushed ∙ ap (λ (k : List Entry). k ++ x ∷ []) (is ∙ get_or_default now x.queue l [] next_in))) refl
 
 -- the places in the queues
 
