@@ -9,3 +9,7 @@ pub mod PassSteps
 pub mod Entries
 pub mod FlagWords
 pub mod RunSteps
+pub mod QueueLaws
+pub mod Listing
+pub mod ChooseSteps
+pub mod QueueSteps

@@ -1,6 +1,5 @@
 -- Finalizer queues: first in, first out.
-use Rattle.std.specs.Prelude.{ℕ, ◌+◌, ◌<◌, List, [], ◌∷◌, ◌++◌, Option, None, Some, unwrap_or, option_map, length, slice_set, slice_index_or, flat_map}
-use Rattle.std.specs.List.{All}
+use Rattle.std.specs.Prelude.{ℕ, ◌+◌, ◌<◌, List, [], ◌∷◌, ◌++◌, Option, None, Some, unwrap_or, option_map, slice_set, slice_index_or, flat_map}
 use Rattle.type_table.specs.Table.{Table, value_at, with_value, without_key}
 use Rattle.finalizer_order.specs.declared.entry.Entry.{Entry}
 use Rattle.finalizer_order.specs.Finalizers.{Finalizers}
@@ -38,9 +37,10 @@ tabled number [] = []
 tabled number ([] ∷ queues) = tabled (number + 1) queues
 tabled number ((entry ∷ entries) ∷ queues) = (number, entry ∷ entries) ∷ tabled (number + 1) queues
 
--- each object has a queue
-abbrev pub InRange : List (List Entry) → List Entry → Type 0
-InRange queues entries = All (λ entry. entry.queue < length queues) entries
+-- each object has one of so many queues
+abbrev pub AreInRange : ℕ → List Entry → Type 0
+AreInRange count [] = Unit {0}
+AreInRange count (entry ∷ entries) = (entry.queue < count) × AreInRange count entries
 
 -- queues that lie side by side, after these objects entered theirs, in order
 abbrev pub push_all : List (List Entry) → List Entry → List (List Entry)

@@ -1,6 +1,6 @@
 //! Objects with finalizers, and lists of them.
 
-ghost use Rattle.std.specs.Prelude.{◌≡◌, ◌+◌, ◌≤◌, ◌++◌, IsFalse, IfSome, IfNone, length, slice_get, option_map, Some, vec_len, vec_capacity};
+ghost use Rattle.std.specs.Prelude.{◌≡◌, ◌==◌, ◌+◌, position, ◌≤◌, ◌++◌, IsFalse, IfSome, IfNone, length, slice_get, option_map, Some, vec_len, vec_capacity};
 ghost use Rattle.object_model.specs.Sets.{is_in};
 ghost use Rattle.finalizer_order.specs.Finalizers.{places_of};
 
@@ -31,8 +31,7 @@ pub(crate) fn index_from(entries: &[Entry], from: usize, place: u64) -> Option<u
 
 // The index of the first entry with the place.
 fn index_of(entries: &[Entry], place: u64) -> Option<usize>
-    ensures found { IfSome result (λ k. option_map (λ entry. entry.place) (slice_get entries.now k) ≡ Some place) }
-    ensures none { IfNone result (IsFalse (is_in place (places_of entries.now))) }
+    ensures { result ≡ position (λ entry. entry.place == place) entries.now }
 {
     entries.iter().position(|entry| entry.place == place)
 }
@@ -40,7 +39,9 @@ fn index_of(entries: &[Entry], place: u64) -> Option<usize>
 /// Appends the places of entries to a list that has room for them.
 pub(crate) fn append_places(entries: &[Entry], places: &mut Vec<u64>)
     requires { vec_len places.old + length entries.now ≤ vec_capacity places.old }
-    ensures { places.new.items ≡ places.old.items ++ places_of entries.now }
+    ensures items { places.new.items ≡ places.old.items ++ places_of entries.now }
+    ensures used { vec_len places.new ≤ vec_len places.old + length entries.now }
+    ensures room { vec_capacity places.new ≡ vec_capacity places.old }
 {
     for entry in entries {
         places.push_reserved(entry.place);

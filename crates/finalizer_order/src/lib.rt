@@ -21,13 +21,14 @@ mod queue;
 mod tests;
 
 use crate::entry::append_places;
-use crate::passes::{Passes, settle, split};
+use crate::passes::Passes;
 use crate::queue::{Queue, append_queued, empty_queues, queue_all};
 use heap_space::Space;
 use indexmap::IndexSet;
 use nursery_gaps::Nursery;
 use std::alloc::{AllocError, Global};
 use std::marker::Model;
+use std::mem;
 use type_table::TypeTable;
 
 pub use crate::entry::Entry;
@@ -51,10 +52,11 @@ pub struct Finals {
 }
 
 impl Model for Finals {
-    ghost use Rattle.std.specs.Prelude.{length};
+    ghost use Rattle.std.specs.Prelude.{length, nat_eq};
+    ghost use Rattle.indexmap.specs.IndexSet.{contains};
     ghost use Rattle.finalizer_order.specs.Finalizers.{Finalizers};
     ghost use Rattle.finalizer_order.specs.Queues.{tabled};
-    ghost use Rattle.finalizer_order.specs.Listed.{HasBirths};
+    ghost use Rattle.finalizer_order.specs.Listed.{AreListed};
 
     ghost Value = { Finalizers };
 
@@ -65,7 +67,7 @@ impl Model for Finals {
       queues = tabled 0 f.queues.items;
     } };
 
-    ghost invariant = { λ f. HasBirths f.births.keys f.registered.items f.chosen.items (tabled 0 f.queues.items) };
+    ghost invariant = { λ f. AreListed (contains nat_eq f.births) f.registered.items f.chosen.items f.queues.items };
 }
 
 impl Finals {
@@ -128,7 +130,8 @@ impl Finals {
     /// kept: it gets the flag Visited, and its births are appended, by rising birth. The flags Order1
     /// and Order2 are clear before and after.
     ///
-    /// The error is want of memory alone. Nothing more is said of the finalizers and the space then.
+    /// The error is want of memory alone. Nothing more is said of the finalizers and the space then, and
+    /// `kept` is as it was.
     pub fn choose(
         &mut self,
         space: &mut Space,
@@ -141,11 +144,13 @@ impl Finals {
             (Chooses types.now nursery.now.words (word_at space.old.blocks) self.old self.new) }
         ensures kept { OnOk result
             (Keeps types.now nursery.now.words (places_of self.old.registered) space.old space.new kept.old.items kept.new.items) }
-        ensures err { OnErr result (BeginsWith kept.old.items kept.new.items) }
+        ensures err { OnErr result (kept.new.items ≡ kept.old.items) }
     {
         self.passes.run(space, types, nursery, &self.registered)?;
-        split(space, nursery, &mut self.registered, &mut self.chosen)?;
-        settle(space, self.passes.marked(), kept)
+        self.passes.split(space, nursery, &self.registered)?;
+        self.chosen.extend_from_slice(&self.passes.taken)?;
+        mem::swap(&mut self.registered, &mut self.passes.stays);
+        self.passes.settle(space, kept)
     }
 
     /// Lets each chosen object enter its queue, in order of registration, and appends their places with
@@ -158,9 +163,7 @@ impl Finals {
         ensures told { OnOk result (queued.new.items ≡ queued.old.items ++ placed self.old.chosen) }
         ensures err { OnErr result (BeginsWith queued.old.items queued.new.items) }
     {
-        queue_all(&mut self.queues, &self.chosen, queued)?;
-        self.chosen.clear();
-        Ok(())
+        queue_all(&mut self.queues, &mut self.chosen, queued)
     }
 
     /// Takes the first object out of a queue, and tells its place. `None` exactly where the queue is

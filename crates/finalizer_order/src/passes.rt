@@ -7,7 +7,6 @@ ghost use Rattle.heap_space.specs.Places.{has, word_at};
 ghost use Rattle.object_header.specs.Words.{without_flag};
 ghost use Rattle.object_model.specs.Sets.{is_in};
 ghost use Rattle.finalizer_order.specs.Finalizers.{places_of};
-ghost use Rattle.finalizer_order.specs.Listed.{BeginsWith};
 ghost use Rattle.finalizer_order.specs.Changes.{changed_at};
 ghost use Rattle.finalizer_order.specs.Choosing.{CanChoose};
 ghost use Rattle.finalizer_order.specs.Passes.{CanPass, PassesFirst, PassesSecond, NoneLeadsLater, HasPassed, HaveHeads, Settles, is_ordered, settled_word};
@@ -33,6 +32,12 @@ pub(crate) struct Passes {
     candidates: Vec<u64>,
     /// The candidates which no later one reaches.
     found: Vec<u64>,
+    /// The births of what is kept.
+    births: Vec<u64>,
+    /// The registered objects that stay so.
+    pub(crate) stays: Vec<Entry>,
+    /// Those that are chosen.
+    pub(crate) taken: Vec<Entry>,
 }
 
 impl Passes {
@@ -43,14 +48,10 @@ impl Passes {
             again: Vec::new(alloc),
             candidates: Vec::new(alloc),
             found: Vec::new(alloc),
+            births: Vec::new(alloc),
+            stays: Vec::new(alloc),
+            taken: Vec::new(alloc),
         }
-    }
-
-    /// What the passes marked.
-    pub(crate) fn marked(&self) -> &[u64]
-        ensures { result.now ≡ self.now.marked.items }
-    {
-        &self.marked
     }
 
     /// Marks what is kept with Order1, and the chosen ones among the registered with Order2 alone.
@@ -87,6 +88,39 @@ impl Passes {
         )?;
         set_chosen(space, &self.found);
         Ok(())
+    }
+
+    /// Tells the chosen objects among the registered, which have Order2 alone, from those that stay so.
+    pub(crate) fn split(
+        &mut self,
+        space: &Space,
+        nursery: &Nursery,
+        registered: &[Entry],
+    ) -> Result<(), AllocError>
+        requires { (p : ℕ) → IsTrue (is_in p (places_of registered.now)) → nursery.now.words < p → IsTrue (has space.now.blocks p) }
+        ensures stays { OnOk result (self.new.stays.items
+            ≡ filter (λ entry. not (is_ordered nursery.now.words (word_at space.now.blocks) entry.place)) registered.now) }
+        ensures taken { OnOk result (self.new.taken.items
+            ≡ filter (λ entry. is_ordered nursery.now.words (word_at space.now.blocks) entry.place) registered.now) }
+        ensures marked { self.new.marked.items ≡ self.old.marked.items }
+    {
+        self.stays.clear();
+        self.taken.clear();
+        split(space, nursery, registered, &mut self.stays, &mut self.taken)
+    }
+
+    /// Visits the marked objects, takes the flags of the passes off them, and appends their births, by
+    /// rising birth. Without memory nothing is appended.
+    pub(crate) fn settle(&mut self, space: &mut Space, kept: &mut Vec<u64>) -> Result<(), AllocError>
+        requires { HaveHeads space.old self.old.marked.items }
+        ensures settled { OnOk result
+            (Settles self.old.marked.items space.old space.new kept.old.items kept.new.items) }
+        ensures err { OnErr result (kept.new.items ≡ kept.old.items) }
+    {
+        self.births.clear();
+        visit_all(space, &self.marked, &mut self.births)?;
+        self.births.sort_unstable();
+        kept.extend_from_slice(&self.births)
     }
 }
 
@@ -167,64 +201,49 @@ fn is_chosen(space: &Space, nursery: &Nursery, place: u64) -> bool
     is_set(word, Flag::Order2) && !is_set(word, Flag::Order1)
 }
 
-/// Moves the chosen objects from one list to the end of the other, in their order.
-pub(crate) fn split(
-    space: &Space,
-    nursery: &Nursery,
-    registered: &mut Vec<Entry>,
-    chosen: &mut Vec<Entry>,
-) -> Result<(), AllocError>
-    requires { (p : ℕ) → IsTrue (is_in p (places_of registered.old.items)) → nursery.now.words < p → IsTrue (has space.now.blocks p) }
-    ensures registered { OnOk result (registered.new.items
-        ≡ filter (λ entry. not (is_ordered nursery.now.words (word_at space.now.blocks) entry.place)) registered.old.items) }
-    ensures chosen { OnOk result (chosen.new.items ≡ chosen.old.items
-        ++ filter (λ entry. is_ordered nursery.now.words (word_at space.now.blocks) entry.place) registered.old.items) }
-    ensures err { OnErr result (registered.new.items ≡ registered.old.items) }
-    ensures chosen_err { OnErr result (BeginsWith chosen.old.items chosen.new.items) }
-{
-    append_chosen(space, nursery, registered, chosen)?;
-    registered.retain(|entry| !is_chosen(space, nursery, entry.place));
-    Ok(())
-}
-
-// Appends the chosen objects among the registered.
-fn append_chosen(
+// Tells the chosen objects among the registered from those that stay registered.
+fn split(
     space: &Space,
     nursery: &Nursery,
     registered: &[Entry],
-    chosen: &mut Vec<Entry>,
+    stays: &mut Vec<Entry>,
+    taken: &mut Vec<Entry>,
 ) -> Result<(), AllocError>
     requires { (p : ℕ) → IsTrue (is_in p (places_of registered.now)) → nursery.now.words < p → IsTrue (has space.now.blocks p) }
-    ensures { OnOk result (chosen.new.items ≡ chosen.old.items
+    ensures stays { OnOk result (stays.new.items ≡ stays.old.items
+        ++ filter (λ entry. not (is_ordered nursery.now.words (word_at space.now.blocks) entry.place)) registered.now) }
+    ensures taken { OnOk result (taken.new.items ≡ taken.old.items
         ++ filter (λ entry. is_ordered nursery.now.words (word_at space.now.blocks) entry.place) registered.now) }
 {
     for entry in registered {
         if is_chosen(space, nursery, entry.place) {
-            chosen.push(*entry)?;
+            taken.push(*entry)?;
+        } else {
+            stays.push(*entry)?;
         }
     }
     Ok(())
 }
 
-/// Visits the marked objects and takes the flags of the passes off them. Their births are appended, by
-/// rising birth.
-pub(crate) fn settle(
+// Visits the marked objects, takes the flags of the passes off them, and appends their births.
+fn visit_all(
     space: &mut Space,
     marked: &[u64],
-    kept: &mut Vec<u64>,
+    births: &mut Vec<u64>,
 ) -> Result<(), AllocError>
     requires { HaveHeads space.old marked.now }
-    ensures settled { OnOk result (Settles marked.now space.old space.new kept.old.items kept.new.items) }
-    ensures err { OnErr result (BeginsWith kept.old.items kept.new.items) }
+    ensures visited { OnOk result
+        (space.new ≡ record space.old { blocks = changed_at settled_word marked.now space.old.blocks }) }
+    ensures births { OnOk result (births.new.items
+        ≡ births.old.items ++ map (λ p. word_at space.old.blocks (p + 1)) marked.now) }
 {
-    let before = kept.len();
+    // The places of a space are below 2^63.
+    let _ordered = space.arena_words();
     for place in marked {
+        births.push(space.read(*place + 1))?;
         let word = space.read(*place);
-        kept.push(space.read(*place + 1))?;
         space.write(*place, settled(word));
     }
-    let births = &mut kept[before..];
-    births.sort_unstable();
     Ok(())
 }
 

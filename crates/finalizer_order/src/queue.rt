@@ -1,9 +1,9 @@
 //! Finalizer queues.
 
-ghost use Rattle.std.specs.Prelude.{◌≡◌, [], ◌∷◌, ◌++◌, IfOk, OnOk, OnErr, drop, slice_get, replicate};
+ghost use Rattle.std.specs.Prelude.{◌≡◌, ℕ, ◌+◌, length, [], ◌∷◌, ◌++◌, IfOk, OnOk, OnErr, drop, slice_get, replicate};
 ghost use Rattle.finalizer_order.specs.Finalizers.{places_of, placed};
-ghost use Rattle.finalizer_order.specs.Queues.{InRange, push_all, joined};
-ghost use Rattle.finalizer_order.specs.Listed.{BeginsWith};
+ghost use Rattle.finalizer_order.specs.Queues.{AreInRange, push_all, joined};
+ghost use Rattle.finalizer_order.specs.Listed.{BeginsWith, times_of};
 
 use crate::entry::{Entry, append_places};
 use std::alloc::{AllocError, Global};
@@ -52,14 +52,15 @@ impl Queue {
         self.entries.pop_front()
     }
 
-    /// Appends the places of the objects that wait. Without memory nothing is appended, or some are.
+    /// Appends the places of the objects that wait. Without memory nothing is appended.
     fn append(&self, places: &mut Vec<u64>) -> Result<(), AllocError>
         ensures ok { OnOk result (places.new.items ≡ places.old.items ++ places_of self.now) }
-        ensures err { OnErr result (BeginsWith places.old.items places.new.items) }
+        ensures err { OnErr result (places.new.items ≡ places.old.items) }
     {
-        for entry in self.entries.iter() {
-            places.push(entry.place)?;
-        }
+        let (front, back) = self.entries.as_slices();
+        places.reserve(front.len() + back.len())?;
+        append_places(front, places);
+        append_places(back, places);
         Ok(())
     }
 }
@@ -69,27 +70,36 @@ pub(crate) fn empty_queues(alloc: Global, count: usize) -> Result<Vec<Queue>, Al
     ensures { IfOk result (λ queues. queues.items ≡ replicate count []) }
 {
     let mut queues = Vec::with_capacity(alloc, count)?;
-    for _ in 0..count {
-        queues.push_reserved(Queue::new(alloc));
+    for _made in 0..count {
+        queues.push(Queue::new(alloc))?;
     }
     Ok(queues)
 }
 
-/// Lets objects enter their queues, one after the other, and appends their places with the numbers of
-/// the queues.
+/// Lets all chosen objects enter their queues, from the first on, and appends their places with the
+/// numbers of the queues. After want of memory each object is still chosen or in its queue.
 pub(crate) fn queue_all(
     queues: &mut Vec<Queue>,
-    entries: &[Entry],
+    chosen: &mut Vec<Entry>,
     queued: &mut Vec<(u64, u64)>,
 ) -> Result<(), AllocError>
-    requires { InRange queues.old.items entries.now }
-    ensures queues { OnOk result (queues.new.items ≡ push_all queues.old.items entries.now) }
-    ensures told { OnOk result (queued.new.items ≡ queued.old.items ++ placed entries.now) }
+    requires { AreInRange (length queues.old.items) chosen.old.items }
+    ensures queues { OnOk result (queues.new.items ≡ push_all queues.old.items chosen.old.items) }
+    ensures chosen { OnOk result (chosen.new.items ≡ []) }
+    ensures told { OnOk result (queued.new.items ≡ queued.old.items ++ placed chosen.old.items) }
     ensures err { OnErr result (BeginsWith queued.old.items queued.new.items) }
+    ensures many { length queues.new.items ≡ length queues.old.items }
+    ensures in_range { AreInRange (length queues.old.items) chosen.new.items }
+    ensures listed { (birth : ℕ) → times_of birth chosen.new.items + times_of birth (joined queues.new.items)
+        ≡ times_of birth chosen.old.items + times_of birth (joined queues.old.items) }
 {
-    for entry in entries {
+    chosen.reverse();
+    while let Some(entry) = chosen.pop() {
         let queue = &mut queues[entry.queue as usize];
-        queue.push(*entry)?;
+        if let Err(error) = queue.push(entry) {
+            chosen.push_reserved(entry);
+            return Err(error);
+        }
         queued.push((entry.place, entry.queue))?;
     }
     Ok(())

@@ -1,4 +1,4 @@
-use Rattle.std.proofs.Common.{◌≡◌, ℕ, ◌+◌, ◌<◌, ap, ◌∙◌, subst, arith}
+use Rattle.std.proofs.Common.{◌≡◌, ◌+◌, ◌<◌, ap, ◌∙◌, subst, arith}
 use Rattle.heap_space.specs.Places.{word_at}
 use Rattle.object_model.specs.ObjectWords.{layout_at}
 use Rattle.object_view.specs.declared.fields.ObjView.{ObjView}

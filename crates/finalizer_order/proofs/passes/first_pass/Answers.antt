@@ -1,4 +1,4 @@
-use Rattle.std.proofs.Common.{ap, sym, subst, ◌∙◌, ◌≡◌, ◌+◌, ◌++◌, ◌∷◌, IsTrue, List, ℕ, get_or, take, []}
+use Rattle.std.proofs.Common.{sym, subst, ◌∙◌, ◌≡◌, ◌+◌, ◌++◌, ◌∷◌, IsTrue, List, ℕ, get_or, take, []}
 use Rattle.object_model.specs.Sets.{is_in}
 use Rattle.finalizer_order.specs.declared.entry.Entry.{Entry}
 use Rattle.finalizer_order.specs.Finalizers.{places_of}

@@ -1,5 +1,5 @@
-use Rattle.std.proofs.Common.{ap, sym, subst, ◌∙◌, List, ℕ, []}
-use Rattle.finalizer_order.proofs.PassSteps.{SecondSome, second_begins, second-has, second-whole, second_skips, second_takes, second_ends}
+use Rattle.std.proofs.Common.{sym, subst, ◌∙◌, List, ℕ, []}
+use Rattle.finalizer_order.proofs.PassSteps.{SecondSome, second_begins, second-has, second-whole, second_skips, second_takes}
 use Rattle.finalizer_order.proofs.passes.second_pass.Goals as goal
 
 pub loop-place-init : goal.loop-place-init

@@ -1,8 +1,5 @@
-use Rattle.finalizer_order.proofs.Candidates.{found_all}
-use Rattle.finalizer_order.proofs.Marks.{marks_less}
-use Rattle.std.proofs.Common.{get_or, sym, ap, ◌∙◌}
-use Rattle.heap_space.specs.Memory.{Memory}
-use Rattle.heap_space.specs.Places.{word_at, with_word}
+use Rattle.std.proofs.Common.{get_or, ap, ◌∙◌}
+use Rattle.heap_space.specs.Places.{with_word}
 use Rattle.object_header.specs.Words.{without_flag}
 use Rattle.object_header.specs.declared.flags.Flag.TheVariants.{Order1}
 use Rattle.finalizer_order.proofs.Steps.{has_next, changes_next}

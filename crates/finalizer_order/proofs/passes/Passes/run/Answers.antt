@@ -1,9 +1,7 @@
 use Rattle.std.proofs.Common.{◌≡◌, ℕ, List, sym, ap, ◌∙◌, subst, IsTrue}
 use Rattle.heap_space.specs.Memory.{Memory}
-use Rattle.heap_space.specs.Places.{has}
 use Rattle.object_model.specs.Sets.{is_in}
 use Rattle.finalizer_order.specs.Finalizers.{places_of}
-use Rattle.finalizer_order.specs.Changes.{changed_at}
 use Rattle.finalizer_order.specs.Passes.{HasPassed}
 use Rattle.finalizer_order.proofs.Objects.{changed}
 use Rattle.finalizer_order.proofs.RunSteps.{off1, can_first, can_second, second_unvisited, second_none_later, found-has, has_passed}
