@@ -5,3 +5,5 @@ pub mod SlotCalls
 pub mod BarrierCalls
 pub mod TellerLaws
 pub mod LookLaws
+pub mod BirthLaws
+pub mod BearLaws

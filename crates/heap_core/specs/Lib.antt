@@ -1,3 +1,4 @@
 pub mod Heap
 pub mod Commands
 pub mod Seen
+pub mod Bearing

@@ -1,6 +1,7 @@
 //! The heap of a script: objects in words, and root slots that lead to them. A file for each family of calls.
 #![tactic(auto)]
 
+mod births;
 mod fault;
 mod fields;
 mod heap;

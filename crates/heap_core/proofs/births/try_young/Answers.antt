@@ -1,0 +1,5 @@
+use Rattle.heap_core.proofs.BearLaws.{nursery_room}
+use Rattle.heap_core.proofs.births.try_young.Goals as goal
+
+pub bear_young-requires : goal.bear_young-requires
+bear_young-requires c = nursery_room c.args.parts.now c.args.root c.args.type_id c.args.items c.args.info c.requires
