@@ -1,36 +1,34 @@
 -- Births by commands.
-use Rattle.std.proofs.Common.{◌≡◌, ◌≢◌, ℕ, ◌+◌, ◌^◌, ◌<◌, ◌≤◌, Bool, true, false, cond, IsTrue, IsFalse, List, [], ◌∷◌, ◌++◌, length, Option, Some, None, Result, Ok, Err, IfOk, OnOk, refl, sym, ap, ◌∙◌, subst, inl, inr, arith}
+use Rattle.std.proofs.Common.{◌≡◌, ℕ, ◌+◌, ◌<◌, ◌≤◌, Bool, true, false, List, [], ◌∷◌, ◌++◌, Option, Some, None, Result, Ok, Err, OnOk, OnErr, refl, sym, ap, ◌∙◌, subst, arith}
 use Rattle.std.specs.declared.alloc.AllocError.{AllocError}
-use Rattle.std.specs.Prelude.{not, nat_lt, nat_le, ◌||◌, is_none}
-use Rattle.std.proofs.lemmas.Bool.{ltb-false, leb-false}
+use Rattle.std.specs.Prelude.{not, nat_lt}
+use Rattle.std.proofs.lemmas.Bool.{ltb-false}
 use Rattle.std.proofs.lemmas.Bool.Decides.{nat_tests}
 use Rattle.type_table.specs.declared.info.Shape.{Shape}
 use Rattle.type_table.specs.declared.info.Shape.TheVariants.{Fixed, IntArray, RefArray, Weak}
 use Rattle.type_table.specs.declared.info.TypeInfo.{TypeInfo}
-use Rattle.type_table.specs.Table.{Table, value_at}
+use Rattle.type_table.specs.Table.{value_at}
 use Rattle.type_table.specs.Words.{words_in}
 use Rattle.nursery_gaps.specs.Nursery.{Fits}
 use Rattle.text_model.specs.Range.{is_above, is_above_ids, is_above_items}
-use Rattle.text_model.specs.declared.command.Command.{Command}
 use Rattle.text_model.specs.declared.command.Command.TheVariants.{NewFixed, NewArray}
-use Rattle.text_model.specs.declared.item.Reason.{Reason}
-use Rattle.text_model.specs.declared.item.Reason.TheVariants.{NotBuilt, NoRoot, NoType, WrongShape, Range}
+use Rattle.text_model.specs.declared.item.Reason.TheVariants.{NotBuilt, WrongShape, Range}
 use Rattle.text_model.specs.declared.line.Line.{Line}
 use Rattle.text_model.specs.declared.line.Line.TheVariants.{Born}
 use Rattle.object_model.specs.Setup.{young_words}
-use Rattle.object_model.specs.Shapes.{is_fixed_shape, is_array_shape, is_weak_shape, has_shape}
+use Rattle.object_model.specs.Shapes.{is_fixed_shape, is_array_shape, is_weak_shape}
 use Rattle.store_model.specs.Store.{Store, unsettled_words, counted_words}
 use Rattle.store_model.specs.Checks.{first_reason, born_checks}
 use Rattle.store_model.specs.Births.{array_request, words_of_type, BirthWithRoom, BirthWithRoomOf, Births}
 use Rattle.store_model.specs.Birth.{with_birth}
 use Rattle.store_model.specs.Collections.{MakesRoom, needs_block, exceeds_limit}
 use Rattle.store_model.specs.Steps.{Does}
-use Rattle.store_model.specs.Unbuilt.{Room, needs_collection}
+use Rattle.store_model.specs.Unbuilt.{needs_collection}
 use Rattle.heap_parts.specs.Parts.{HeapParts}
 use Rattle.heap_parts.specs.Told.{room_told}
 use Rattle.heap_parts.specs.StandsFor.{PartsStandFor}
 use Rattle.heap_parts.specs.Births.{HasNurseryRoom, HasOldRoom, BearsYoung, BearsOld}
-use Rattle.heap_core.specs.Commands.{AreStanding, AreReady, PartsDo}
+use Rattle.heap_core.specs.Commands.{AreStanding, AreReady}
 use Rattle.heap_core.specs.Bearing.{PartsAppend, IsFitting, MayBear, Bears, BearsKnown}
 use Rattle.nursery_gaps.specs.Ranges.{Range as NurseryRange, AreRising}
 use Rattle.heap_core.proofs.Ready.{passed, one_slot, or_false}
@@ -255,3 +253,8 @@ array_does heap new root type_id len before after ready b = record {
 pub on_ok : {P Q : Type 0} (r : Result (Unit {0}) AllocError) → (P → Q) → OnOk r P → OnOk r Q
 on_ok (Ok u) f p = f p
 on_ok (Err e) f p = tt
+
+-- what holds whatever a call answered
+pub on_err : {E P : Type 0} (r : Result (Unit {0}) E) → P → OnErr r P
+on_err (Ok u) p = tt
+on_err (Err e) p = p

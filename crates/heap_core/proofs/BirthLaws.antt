@@ -1,11 +1,10 @@
 -- What a birth is to the stores that the parts of a heap stand for.
-use Rattle.std.proofs.Common.{◌≡◌, ◌≢◌, ℕ, ◌+◌, ◌-◌, ◌^◌, ◌%◌, ◌<◌, ◌≤◌, ◌⊎◌, Bool, true, false, IsTrue, List, [], ◌∷◌, Option, Some, None, refl, sym, ap, ap₂, ◌∙◌, subst, inl, inr, arith, append-nil, mod-eq_of_lt}
+use Rattle.std.proofs.Common.{◌≡◌, ◌≢◌, ℕ, ◌+◌, ◌-◌, ◌^◌, ◌%◌, ◌<◌, ◌≤◌, Bool, true, false, List, [], ◌∷◌, Some, refl, sym, ap, ◌∙◌, subst, inl, inr, arith, append-nil, mod-eq_of_lt}
 use Rattle.std.specs.Prelude.{not, nat_lt, sum_by, if◌then◌else◌, Contains}
 use Rattle.std.proofs.lemmas.Bool.{cases_Bool, cases_lt}
 use Rattle.std.proofs.lemmas.Bool.Decides.{nat_tests}
 use Rattle.std.proofs.lemmas.List.Sums.{sum_by-cons}
 use Rattle.std.proofs.lemmas.List.Sorted.{sum_by-IsPermutation}
-use Rattle.std.specs.List.Sorted.{IsPermutation}
 use Rattle.type_table.specs.declared.info.Shape.{Shape}
 use Rattle.type_table.specs.declared.info.Shape.TheVariants.{Fixed, IntArray, RefArray, Weak}
 use Rattle.type_table.specs.declared.info.TypeInfo.{TypeInfo}
@@ -13,21 +12,18 @@ use Rattle.type_table.specs.Table.{Table, value_at}
 use Rattle.type_table.specs.Words.{words_in}
 use Rattle.heap_space.specs.Memory.{Memory}
 use Rattle.heap_space.specs.Extents.{Extent}
-use Rattle.heap_space.specs.Places.{word_at}
 use Rattle.nursery_gaps.specs.Ranges.{Range, covers, is_free, words_between}
-use Rattle.nursery_gaps.specs.Nursery.{Layout as NurseryLayout, Fits}
+use Rattle.nursery_gaps.specs.Nursery.{Fits}
 use Rattle.object_header.specs.Words.{IsHeader, has_flag, with_flag}
 use Rattle.object_header.specs.declared.flags.Flag.{Flag}
 use Rattle.object_header.specs.declared.flags.Flag.TheVariants.{Track, Visited, HasShadow, Pinned, HasCards, CardsSet, Free, Shadow, Order1, Order2}
 use Rattle.object_header.proofs.HeaderLaws.{has_flag-type}
 use Rattle.object_header.proofs.WordLaws.{has_flag-with_flag_other, has_flag-with_flag_same, type_of-with_flag, IsHeader-with_flag}
-use Rattle.object_model.specs.Layout.{Layout, layout_of}
+use Rattle.object_model.specs.Layout.{layout_of}
 use Rattle.object_model.specs.Newborn.{Request}
-use Rattle.object_model.specs.Sets.{is_in}
 use Rattle.object_model.specs.Shapes.{is_weak_shape}
 use Rattle.object_model.specs.ObjectWords.{words_at}
 use Rattle.object_view.proofs.NewbornLaws.{request-plain}
-use Rattle.old_space.specs.HasBlocks.{HasBlocks, greatest_small}
 use Rattle.old_space.specs.declared.Old.{Old}
 use Rattle.size_pages.specs.Calls.{page_of}
 use Rattle.rawref_links.proofs.Numbers.{Contains-from_is_in}
@@ -37,18 +33,18 @@ use Rattle.store_model.specs.Births.{array_request}
 use Rattle.store_model.specs.Birth.{with_birth, fresh_with}
 use Rattle.heap_parts.specs.Parts.{HeapParts, word_in, home_in}
 use Rattle.heap_parts.specs.Places.{is_young, young_places, old_places}
-use Rattle.heap_parts.specs.Nursery.{IsWalk, AreWalks, walked, HoldsNursery}
+use Rattle.heap_parts.specs.Nursery.{IsWalk, AreWalks, walked}
 use Rattle.heap_parts.specs.OldSpace.{is_waiting, blocks_of, unit_at}
 use Rattle.heap_parts.specs.Headers.{keeps_cards}
 use Rattle.heap_parts.specs.StandsFor.{PartsStandFor}
-use Rattle.heap_parts.specs.Births.{with_newborn, BearsYoung, with_old_blocks, TakesBlock, TakesNone, BearsOld, old_header}
+use Rattle.heap_parts.specs.Births.{with_newborn, BearsYoung, with_old_blocks, TakesNone, BearsOld, old_header}
 use Rattle.old_space.proofs.JoinLaws.{HasBlocks-first}
 use Rattle.heap_parts.proofs.PlaceLaws.{placed_words}
 use Rattle.heap_parts.proofs.BlockLaws.{lies-kept}
 use Rattle.heap_parts.proofs.BirthStands.{IsBornOld, with_born, weaks_with, unsettled_with}
-use Rattle.heap_parts.proofs.YoungBirths.{born_memory, asked_of, young_birth_stands}
+use Rattle.heap_parts.proofs.YoungBirths.{born_memory, young_birth_stands}
 use Rattle.heap_parts.proofs.OldBirths.{old_memory, old_birth_stands}
-use Rattle.heap_parts.proofs.SpareLaws.{TakesFor, take_keeps}
+use Rattle.heap_parts.proofs.SpareLaws.{take_keeps}
 use Rattle.heap_parts.proofs.TakeLaws.{MemoryKeeps}
 use Rattle.heap_parts.proofs.HomeStands.{none_stands}
 use Rattle.heap_core.specs.Commands.{PartsKeep}
@@ -255,7 +251,7 @@ room_ungapped heap store s n ungapped fits =
     let sum : cursor ≡ 1 + sum_by (words_at types w) (walked s.words.young.walks) =
     handed-out types w cursor s.words.young.walks least (subst (λ (rs : List Range). AreWalks types w rs s.words.young.walks) un.1 s.words.young.walk) in
     let same : sum_by (words_at types w) (walked s.words.young.walks) ≡ sum_by (words_at types w) (young_places s.places) =
-    sum_by-IsPermutation (words_at types w) (walked s.words.young.walks) (young_places s.places) s.words.young.just in
+    sym (sum_by-IsPermutation (words_at types w) (walked s.words.young.walks) (young_places s.places) s.words.young.just) in
     let words = placed_words store.settled s.words.objects s.births.settled_are in
     record {
       reached = omega arith;

@@ -7,3 +7,4 @@ pub mod TellerLaws
 pub mod LookLaws
 pub mod BirthLaws
 pub mod BearLaws
+pub mod UsageCalls

@@ -7,6 +7,7 @@ mod fields;
 mod heap;
 mod slots;
 mod tellers;
+mod usage;
 
 pub use fault::HeapFault;
 pub use heap::Heap;

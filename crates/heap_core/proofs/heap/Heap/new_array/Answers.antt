@@ -4,6 +4,7 @@ use Rattle.heap_core.specs.Seen.{seen}
 use Rattle.heap_core.specs.declared.heap.Heap.TheInside.{Inside}
 use Rattle.heap_core.specs.declared.heap.State.TheVariants.{Started}
 use Rattle.heap_core.proofs.Calls.{in_state, performs_appended, keeps_started}
+use Rattle.heap_core.proofs.BearLaws.{on_err}
 use Rattle.heap_core.proofs.heap.Heap.new_array.Goals as goal
 use Rattle.heap_core.proofs.heap.Heap.new_array.Goals.{in-Started+in_ok-bear_array-in-Started, in-Closed, in-Closed-2}
 
@@ -19,5 +20,5 @@ returns-clause-performs c = elim c.match-self.branch [
 
 pub returns-in_err-bear_array-in-Started-clause-err : goal.returns-in_err-bear_array-in-Started-clause-err
 returns-in_err-bear_array-in-Started-clause-err c =
-    keeps_started c.args.self.now _ c.in-Started.parts c.bear_array.new.parts
-    (in_state c.args.self.now c.self.inside.state (Started c.in-Started.parts) c.self.view_is c.in-Started.is) refl c.in_err-bear_array-in-Started.ensures.err
+    on_err c.from_residual.result (keeps_started c.args.self.now _ c.in-Started.parts c.bear_array.new.parts
+    (in_state c.args.self.now c.self.inside.state (Started c.in-Started.parts) c.self.view_is c.in-Started.is) refl c.in_err-bear_array-in-Started.ensures.err)
