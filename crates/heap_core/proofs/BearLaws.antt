@@ -214,7 +214,7 @@ births_of : (heap new : HeapParts) (root type_id items : ℕ) (before after : Li
 births_of heap new root type_id items before after may b store s =
     let f = fits_found heap root type_id items b.info may b.known in
     subst (λ (found : Option TypeInfo). BirthWithRoomOf found heap.setup store (array_request root type_id items) (Born heap.next b.bears.is_old ∷ [])
-      (with_birth b.bears.is_old store b.info (array_request root type_id items))) (sym b.known)
+    (with_birth b.bears.is_old store b.info (array_request root type_id items))) (sym b.known)
     (births_as heap new root type_id items b.info before after f b.bears store s)
 
 pub fixed_does : (heap new : HeapParts) (root type_id : ℕ) (before after : List Line) → AreReady heap (NewFixed root type_id) → BearsKnown heap new root type_id 0 before after

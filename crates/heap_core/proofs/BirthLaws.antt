@@ -66,7 +66,7 @@ young_stands heap new store root type_id items info s can b =
     let young : is_young place ≡ true = grind (arith, nat_tests) in
     let memory : Memory = born_memory heap place type_id items 0 info in
     let made : with_born heap memory b.nursery heap.old_blocks place root info n
-        ≡ record (with_newborn heap place type_id root info items) { nursery = b.nursery; unsettled = heap.unsettled + n } = λ i. record (with_newborn heap place type_id root info items) {
+    ≡ record (with_newborn heap place type_id root info items) { nursery = b.nursery; unsettled = heap.unsettled + n } = λ i. record (with_newborn heap place type_id root info items) {
       nursery = b.nursery;
       weaks = weaks_with (can.plain i) heap.weaks place;
       unsettled = unsettled_with (not (young i)) heap.unsettled n;
@@ -163,7 +163,7 @@ old_stands heap new store root type_id items info s can b =
     let old : is_young place ≡ false = grind (arith, nat_tests) in
     let memory : Memory = old_memory middle.memory place head items 0 info heap.next in
     let made : with_born heap memory heap.nursery middle.old_blocks place root info n
-        ≡ record (with_newborn (with_old_blocks heap middle.old_blocks middle.memory) place head root info items) { old_words = heap.old_words + n; fresh = heap.fresh + n } = λ i.
+    ≡ record (with_newborn (with_old_blocks heap middle.old_blocks middle.memory) place head root info items) { old_words = heap.old_words + n; fresh = heap.fresh + n } = λ i.
     record (with_newborn (with_old_blocks heap middle.old_blocks middle.memory) place head root info items) {
       weaks = weaks_with (can.plain i) heap.weaks place;
       unsettled = unsettled_with (not (old i)) heap.unsettled n;
