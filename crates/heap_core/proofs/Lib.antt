@@ -2,6 +2,8 @@ pub mod Calls
 pub mod Ready
 pub mod FieldCalls
 pub mod SlotCalls
+pub mod StructReady
+pub mod StructCalls
 pub mod BarrierCalls
 pub mod TellerLaws
 pub mod LookLaws

@@ -6,8 +6,10 @@ mod fault;
 mod fields;
 mod heap;
 mod slots;
+mod structures;
 mod tellers;
 mod usage;
 
 pub use fault::HeapFault;
 pub use heap::Heap;
+pub use rawref_links::Dec;
