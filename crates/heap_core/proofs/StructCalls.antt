@@ -62,7 +62,7 @@ p_link_is heap store root s full =
     ap (option_and_then (p_link_of store.structs)) here.named
     ∙ (ap (λ (t : Table Struct). p_link_of t (s.name place)) s.links.named
     ∙ p_link-named s.name s.places place heap.links.structs s.words.objects.differ here.there
-      (rises-unnamed s.name heap.links.structs (subst (λ (t : Table Struct). KeysRise t) s.links.named s.sound.links.rises)) s.links.there)
+    (rises-unnamed s.name heap.links.structs (subst (λ (t : Table Struct). KeysRise t) s.links.named s.sound.links.rises)) s.links.there)
 
 pub from_obj_does : (heap : HeapParts) (root : ℕ) → AreReady heap (FromObj root)
     → PartsDo heap heap (FromObj root) (FromObjIs (p_link_of heap.links.structs (place_in heap root)) ∷ [])
