@@ -32,7 +32,7 @@ use Rattle.heap_parts.proofs.DecStands.{dec_stands, next_dead_stands}
 use Rattle.heap_parts.proofs.ReviveStands.{renamed-none, renamed-full, place_or_nil, to_obj_stands}
 use Rattle.heap_core.specs.Commands.{AreReady, PartsDo}
 use Rattle.heap_core.specs.StructLines.{dec_lines}
-use Rattle.heap_core.proofs.StructReady.{count_ready, inc_ready, dec_ready, from_obj_ready, to_obj_ready, make_link_ready}
+use Rattle.heap_core.proofs.StructReady.{inc_ready, dec_ready, from_obj_ready, to_obj_ready, make_link_ready}
 use Rattle.heap_core.proofs.SlotCalls.{birth-named}
 
 -- the count of a structure does not depend on the name of its object
