@@ -30,7 +30,7 @@ use Rattle.heap_parts.proofs.HeaderLaws.{HeaderIs, header_is}
 use Rattle.heap_parts.proofs.HeldLaws.{or-either, or-first, or-second}
 use Rattle.heap_parts.proofs.SlotLaws.{slot-pointer}
 use Rattle.heap_parts.proofs.StandLaws.{in_slot, link_stands}
-use Rattle.store_model.proofs.RootLaws.{held_root}
+use Rattle.heap_parts.proofs.LinkLaws.{held_root}
 use Rattle.heap_parts.proofs.MinorNeeds.{settled_place}
 use Rattle.heap_parts.proofs.RememberStands.{remember_stands}
 use Rattle.heap_core.specs.Commands.{AreReady, PartsDo}

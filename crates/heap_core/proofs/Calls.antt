@@ -12,6 +12,7 @@ use Rattle.heap_core.specs.declared.heap.State.TheVariants.{Closed, Spent}
 use Rattle.heap_core.specs.Heap.{HeapSeen, heap_of, spent_heap, StandsFor}
 use Rattle.heap_core.specs.Seen.{seen}
 use Rattle.heap_core.specs.Commands.{AreStanding, AreReady, IsStanding, CanDo, PartsDo, PartsKeep, Performs, Keeps, told_by, room_by}
+use Rattle.heap_core.specs.Bearing.{PartsAppend}
 use Rattle.heap_core.proofs.LookLaws.{look_told, room_is}
 
 -- what is seen of a heap in a state
@@ -80,3 +81,9 @@ look_by now parts is store stands =
 pub room_seen : (now : HeapSeen) (parts : HeapParts) → now ≡ heap_of parts → (store : Store) → StandsFor now store → room_of store ≡ room_by now
 room_seen now parts is store stands =
     room_is parts store (stands_of now parts store is stands) ∙ sym (ap (λ (h : HeapSeen). room_by h) is)
+
+-- and append its lines
+pub performs_appended : (now new : HeapSeen) (parts after : HeapParts) (command : Command) (before behind : List Line)
+    → now ≡ heap_of parts → new ≡ heap_of after → PartsAppend parts after command before behind → Performs now new command before behind
+performs_appended now new parts after command before behind is becomes a =
+    subst (λ (ls : List Line). Performs now new command before ls) (sym a.appended) (performs_started now new parts after command before a.lines is becomes a.does)

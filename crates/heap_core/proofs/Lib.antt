@@ -2,8 +2,11 @@ pub mod Calls
 pub mod Ready
 pub mod FieldCalls
 pub mod SlotCalls
+pub mod StructReady
+pub mod StructCalls
 pub mod BarrierCalls
 pub mod TellerLaws
 pub mod LookLaws
-pub mod StructReady
-pub mod StructCalls
+pub mod BirthLaws
+pub mod BearLaws
+pub mod UsageCalls

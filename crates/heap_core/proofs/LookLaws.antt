@@ -27,10 +27,10 @@ use Rattle.heap_parts.specs.Places.{is_young}
 use Rattle.heap_parts.specs.Lists.{named_queues}
 use Rattle.heap_parts.specs.StandsFor.{PartsStandFor}
 use Rattle.heap_parts.specs.Told.{kind_from, kind_at, if_there, finalizer_places, has_p_link_at, told, room_told}
-use Rattle.object_model.proofs.Members.{in-either}
+use Rattle.heap_parts.proofs.Members.{in-either}
 use Rattle.heap_parts.proofs.PlaceLaws.{placed_words, is_in-young, is_in-old, young-is_in}
 use Rattle.heap_parts.proofs.SlotLaws.{slot-pointer, pointer-some}
-use Rattle.store_model.proofs.StructLaws.{value_at-objects}
+use Rattle.heap_parts.proofs.StructLaws.{value_at-objects}
 use Rattle.heap_parts.proofs.BirthNames.{entries-names, rises-unnamed}
 use Rattle.heap_parts.proofs.ToldLaws.{in-named, p_link-named}
 use Rattle.heap_core.proofs.SlotCalls.{slot-holds}
@@ -112,8 +112,8 @@ module _ (heap : HeapParts) (store : Store) (s : PartsStandFor heap store) where
       let births : pinned_births store ≡ map s.name (pinned_places heap) = ap (λ (es : List (ℕ × ℕ)). map (λ entry. entry.0) es) s.pins.named ∙ entries-names s.name heap.pins in
       ap (λ (b : Option ℕ). is_held_in b (pinned_births store)) (slot-holds heap store root s)
       ∙ held-by s.name p (pinned_births store) (has_flag (word_in heap p) Pinned) (λ full.
-        ap (is_in (s.name p)) births ∙ (in-named s.name s.places p (pinned_places heap) s.words.objects.differ (there root full) (λ q u. (young-is_in s.places q (s.pins.there q u)).0)
-        ∙ pinned-place p (there root full)))
+      ap (is_in (s.name p)) births ∙ (in-named s.name s.places p (pinned_places heap) s.words.objects.differ (there root full) (λ q u. (young-is_in s.places q (s.pins.there q u)).0)
+      ∙ pinned-place p (there root full)))
 
   final_births : registered_births store ++ waiting_births store ≡ map s.name (finalizer_places heap)
   final_births =
@@ -140,17 +140,17 @@ module _ (heap : HeapParts) (store : Store) (s : PartsStandFor heap store) where
       let p : ℕ = place_in heap root in let births : List ℕ = registered_births store ++ waiting_births store in
       ap (λ (b : Option ℕ). is_held_in b births) (slot-holds heap store root s)
       ∙ held-by s.name p births (is_in p (finalizer_places heap)) (λ full.
-        ap (is_in (s.name p)) final_births ∙ in-named s.name s.places p (finalizer_places heap) s.words.objects.differ (there root full) finals-there)
+      ap (is_in (s.name p)) final_births ∙ in-named s.name s.places p (finalizer_places heap) s.words.objects.differ (there root full) finals-there)
 
   linked : (root : ℕ) → has_p_link store.structs (held store.slots root) ≡ if_there (place_in heap root) (has_p_link_at heap (place_in heap root))
   linked root =
       let p : ℕ = place_in heap root in
       ap (λ (b : Option ℕ). has_p_link store.structs b) (slot-holds heap store root s)
       ∙ linked-by s.name p store.structs (has_p_link_at heap p) (λ full.
-        some-p_link store.structs (s.name p)
-        ∙ (ap (λ (t : Table Struct). is_some (p_link_of t (s.name p))) s.links.named
-        ∙ ap (λ (o : Option ℕ). is_some o) (p_link-named s.name s.places p heap.links.structs s.words.objects.differ (there root full)
-          (rises-unnamed s.name heap.links.structs (subst (λ (t : Table Struct). KeysRise t) s.links.named s.sound.links.rises)) s.links.there)))
+      some-p_link store.structs (s.name p)
+      ∙ (ap (λ (t : Table Struct). is_some (p_link_of t (s.name p))) s.links.named
+      ∙ ap (λ (o : Option ℕ). is_some o) (p_link-named s.name s.places p heap.links.structs s.words.objects.differ (there root full)
+      (rises-unnamed s.name heap.links.structs (subst (λ (t : Table Struct). KeysRise t) s.links.named s.sound.links.rises)) s.links.there)))
       (no-p_link store.structs)
 
   structures : (number : ℕ) → state_of (value_at store.structs number) ≡ state_of (value_at heap.links.structs number)

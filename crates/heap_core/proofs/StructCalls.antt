@@ -26,13 +26,13 @@ use Rattle.heap_parts.proofs.StandLaws.{in_slot}
 use Rattle.heap_parts.proofs.SlotLaws.{pointer-some}
 use Rattle.heap_parts.proofs.BirthNames.{rises-unnamed}
 use Rattle.heap_parts.proofs.ToldLaws.{p_link-named}
-use Rattle.store_model.proofs.StructLaws.{first-value}
+use Rattle.heap_parts.proofs.StructLaws.{first-value}
 use Rattle.heap_parts.proofs.StructStands.{struct-named, inc_stands, make_link_stands}
 use Rattle.heap_parts.proofs.DecStands.{dec_stands, next_dead_stands}
 use Rattle.heap_parts.proofs.ReviveStands.{renamed-none, renamed-full, place_or_nil, to_obj_stands}
 use Rattle.heap_core.specs.Commands.{AreReady, PartsDo}
 use Rattle.heap_core.specs.StructLines.{dec_lines}
-use Rattle.heap_core.proofs.StructReady.{count_ready, inc_ready, dec_ready, from_obj_ready, to_obj_ready, make_link_ready}
+use Rattle.heap_core.proofs.StructReady.{inc_ready, dec_ready, from_obj_ready, to_obj_ready, make_link_ready}
 use Rattle.heap_core.proofs.SlotCalls.{birth-named}
 
 -- the count of a structure does not depend on the name of its object
@@ -62,7 +62,7 @@ p_link_is heap store root s full =
     ap (option_and_then (p_link_of store.structs)) here.named
     ∙ (ap (λ (t : Table Struct). p_link_of t (s.name place)) s.links.named
     ∙ p_link-named s.name s.places place heap.links.structs s.words.objects.differ here.there
-      (rises-unnamed s.name heap.links.structs (subst (λ (t : Table Struct). KeysRise t) s.links.named s.sound.links.rises)) s.links.there)
+    (rises-unnamed s.name heap.links.structs (subst (λ (t : Table Struct). KeysRise t) s.links.named s.sound.links.rises)) s.links.there)
 
 pub from_obj_does : (heap : HeapParts) (root : ℕ) → AreReady heap (FromObj root)
     → PartsDo heap heap (FromObj root) (FromObjIs (p_link_of heap.links.structs (place_in heap root)) ∷ [])

@@ -1,18 +1,18 @@
 -- What is known of C structures where a command on them is not refused.
-use Rattle.std.proofs.Common.{◌≡◌, ◌≢◌, ℕ, ◌<◌, ◌≤◌, Bool, true, false, IsTrue, cond, [], ◌∷◌, ◌++◌, length, Option, Some, None, refl, ap, inl, inr}
-use Rattle.std.specs.Prelude.{not, nat_le, is_none, is_some, ◌&&◌, ◌||◌}
+use Rattle.std.proofs.Common.{◌≡◌, ◌≢◌, ℕ, ◌<◌, ◌≤◌, Bool, true, false, IsTrue, ◌++◌, length, Option, Some, None, refl, sym, ap, subst, inl, inr}
+use Rattle.std.specs.Prelude.{not, nat_le, is_none, is_some, ◌&&◌, ◌||◌, IsSome, IsSomeAnd}
 use Rattle.std.proofs.lemmas.Bool.{leb-false, ltb-false, ne_eqb}
 use Rattle.std.proofs.lemmas.Bool.Decides.{eqb_tells}
 use Rattle.type_table.specs.declared.info.TypeInfo.{TypeInfo}
 use Rattle.type_table.specs.Table.{Table, value_at}
 use Rattle.text_model.specs.declared.command.Command.TheVariants.{MakeLink, Inc, Dec as DecCommand, Count, FromObj, ToObj}
-use Rattle.text_model.specs.declared.item.Reason.{Reason}
 use Rattle.text_model.specs.declared.item.Reason.TheVariants.{NilRoot, StructUsed, HasPLink, CountFull, CountZero, Range}
 use Rattle.text_model.specs.Range.{is_above, is_above_ids, is_above_counts}
 use Rattle.store_model.specs.Checks.{Checks, first_reason}
 use Rattle.store_model.specs.StructChecks.{is_absent, struct_checks, inc_checks, dec_checks}
 use Rattle.store_model.specs.Store.{Struct, Linked, Unlinked, Pending}
 use Rattle.store_model.specs.Structs.{state_of, p_link_of}
+use Rattle.rawref_links.specs.Conditions as links
 use Rattle.heap_parts.specs.Parts.{HeapParts, word_in, place_in}
 use Rattle.heap_parts.specs.Told.{kind_at, if_there}
 use Rattle.heap_parts.proofs.StructStands as rises
@@ -111,3 +111,26 @@ make_link_ready heap p number root light own ready =
       few_numbers = range.0;
       few = range.1;
     }
+
+-- a structure that was found is there
+pub is_there : (found : Option Struct) (t : Struct) → found ≡ Some t → IsSome found
+is_there found t is = ap is_some is
+
+rises_alike : (t : Struct) → rises.CanRise t → links.CanRise t
+rises_alike (Linked p light object own) can = can
+rises_alike (Unlinked own) can = can
+rises_alike Pending can = can
+
+falls_alike : (t : Struct) → rises.CanFall t → links.CanFall t
+falls_alike (Linked p light object own) can = can
+falls_alike (Unlinked own) can = can
+falls_alike Pending can = can
+
+-- what the links ask before a count rises, and before it falls
+pub can_rise : (heap : HeapParts) (number : ℕ) → AreReady heap (Inc number) → IsSomeAnd (value_at heap.links.structs number) links.CanRise
+can_rise heap number ready =
+    let can = inc_ready heap number ready in subst (λ (found : Option Struct). IsSomeAnd found links.CanRise) (sym can.1) (rises_alike can.0 can.2)
+
+pub can_fall : (heap : HeapParts) (number : ℕ) → AreReady heap (DecCommand number) → IsSomeAnd (value_at heap.links.structs number) links.CanFall
+can_fall heap number ready =
+    let can = dec_ready heap number ready in subst (λ (found : Option Struct). IsSomeAnd found links.CanFall) (sym can.1) (falls_alike can.0 can.2)

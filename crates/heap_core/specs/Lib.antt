@@ -1,4 +1,5 @@
 pub mod Heap
 pub mod Commands
-pub mod Seen
 pub mod StructLines
+pub mod Seen
+pub mod Bearing

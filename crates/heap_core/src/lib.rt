@@ -1,12 +1,14 @@
 //! The heap of a script: objects in words, and root slots that lead to them. A file for each family of calls.
 #![tactic(auto)]
 
+mod births;
 mod fault;
 mod fields;
 mod heap;
 mod slots;
 mod structures;
 mod tellers;
+mod usage;
 
 pub use fault::HeapFault;
 pub use heap::Heap;

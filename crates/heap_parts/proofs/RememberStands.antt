@@ -1,6 +1,6 @@
 -- More is remembered of a settled object, whole or by cards: the heap stands for the same store.
-use Rattle.std.proofs.Common.{◌≡◌, ◌≢◌, ℕ, ◌%◌, true, false, IsTrue, ◌⊎◌, List, [], ◌∷◌, ◌++◌, sym, ap, ap₂, ◌∙◌, subst, inl, inr}
-use Rattle.std.specs.Prelude.{not, ◌==◌, if◌then◌else◌}
+use Rattle.std.proofs.Common.{◌≡◌, ℕ, ◌%◌, true, false, IsTrue, sym, ap, ap₂, ◌∙◌, subst, inl, inr}
+use Rattle.std.specs.Prelude.{not}
 use Rattle.std.proofs.lemmas.Bool.Decides.{eqb_tells}
 use Rattle.type_table.specs.declared.info.TypeInfo.{TypeInfo}
 use Rattle.object_header.specs.Words.{has_flag}
@@ -9,7 +9,7 @@ use Rattle.object_view.proofs.LayoutLaws.{info_at-same}
 use Rattle.object_model.specs.Layout.{Layout}
 use Rattle.store_model.specs.Store.{Store}
 use Rattle.object_model.specs.Sets.{is_in}
-use Rattle.remember_cards.specs.Remembered.{Remembered, RemembersMore, held_places, is_held_whole, has_held_cards, is_held_of}
+use Rattle.remember_cards.specs.Remembered.{Remembered, RemembersMore, held_places}
 use Rattle.heap_parts.specs.Parts.{HeapParts, word_in}
 use Rattle.heap_parts.specs.Places.{is_young, young_places, old_places, AreAmong}
 use Rattle.heap_parts.specs.Headers.{IsSettledHeader, keeps_cards}

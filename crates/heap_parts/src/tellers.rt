@@ -4,6 +4,8 @@ ghost use Rattle.type_table.specs.Table.{value_at};
 ghost use Rattle.object_header.specs.Words.{has_flag};
 ghost use Rattle.object_header.specs.declared.flags.Flag.TheVariants.{Pinned};
 ghost use Rattle.object_view.specs.Views.{HasObject};
+ghost use Rattle.object_model.specs.Setup.{young_words};
+ghost use Rattle.store_model.specs.Store.{husk_words as husk_words_of};
 ghost use Rattle.store_model.specs.Structs.{state_of};
 ghost use Rattle.heap_parts.specs.Parts.{word_in, place_in};
 ghost use Rattle.heap_parts.specs.Told.{if_there, has_p_link_at};
@@ -65,5 +67,27 @@ impl Parts {
         ensures { result ≡ self.now.unsettled + self.now.old_words }
     {
         self.unsettled + self.old_words
+    }
+
+    /// The next birth.
+    pub fn next_birth(&self) -> u64
+        ensures { result ≡ self.now.next }
+    {
+        self.next
+    }
+
+    /// The greatest words of an object of the nursery.
+    pub fn young_words(&self) -> u64
+        ensures { result ≡ young_words self.now.setup.settings }
+    {
+        self.settings.young_words()
+    }
+
+    /// The words of all husks: what was condemned and is not freed yet.
+    pub fn husk_words(&self) -> u64
+        requires { husk_words_of self.now.husk_list < 2 ^ 64 }
+        ensures { result ≡ husk_words_of self.now.husk_list }
+    {
+        self.husks.iter().map(|husk| husk.1).sum()
     }
 }

@@ -9,6 +9,15 @@ use Rattle.heap_core.proofs.StructReady.{make_link_ready}
 use Rattle.heap_core.proofs.StructCalls.{make_link_does, on_done}
 use Rattle.heap_core.proofs.structures.link_object.Goals as goal
 
+pub make_link-requires-clause-absent : goal.make_link-requires-clause-absent
+make_link-requires-clause-absent c = (make_link_ready c.args.parts.now c.args.p c.args.number c.args.root c.args.light c.args.own c.requires).absent
+
+pub make_link-requires-clause-one : goal.make_link-requires-clause-one
+make_link-requires-clause-one c = λ yes.
+    let now : HeapParts = c.args.parts.now in
+    ap (λ (place : ℕ). p_link_of now.links.structs place) c.place-place.ensures
+    ∙ (make_link_ready now c.args.p c.args.number c.args.root c.args.light c.args.own c.requires).free yes
+
 pub make_link-requires-clause-fits : goal.make_link-requires-clause-fits
 make_link-requires-clause-fits c = (make_link_ready c.args.parts.now c.args.p c.args.number c.args.root c.args.light c.args.own c.requires).few
 

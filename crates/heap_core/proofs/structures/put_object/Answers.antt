@@ -5,9 +5,14 @@ use Rattle.object_view.specs.Views.{HasObject}
 use Rattle.heap_parts.specs.Parts.{HeapParts, word_in}
 use Rattle.heap_parts.specs.Effects.{with_slot, birth_read}
 use Rattle.heap_core.specs.Commands.{PartsDo}
-use Rattle.heap_core.proofs.StructReady.{to_obj_ready}
+use Rattle.heap_core.proofs.StructReady.{to_obj_ready, is_there}
 use Rattle.heap_core.proofs.StructCalls.{place_found, to_obj_whole, to_obj_does}
+use Rattle.type_table.specs.Table.{value_at}
 use Rattle.heap_core.proofs.structures.put_object.Goals as goal
+
+pub linked_place-requires : goal.linked_place-requires
+linked_place-requires c =
+    let now = c.args.parts.now in let found = to_obj_ready now c.args.to c.args.number c.requires in is_there (value_at now.links.structs c.args.number) found.0 found.1
 
 pub birth_of-birth-requires : goal.birth_of-birth-requires
 birth_of-birth-requires c =
