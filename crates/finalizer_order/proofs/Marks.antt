@@ -14,7 +14,7 @@ use Rattle.object_header.specs.declared.flags.Flag.{Flag}
 use Rattle.object_header.specs.declared.flags.Flag.TheVariants.{Visited, Order1, Order2}
 use Rattle.object_header.proofs.WordLaws.{has_flag-with_flag_same, has_flag-with_flag_other, type_of-with_flag}
 use Rattle.object_model.specs.Sets.{is_in}
-use Rattle.object_view.proofs.WordLaws.{is_in-head, is_in-tail, is_in-cases, is_in-nil}
+use Rattle.object_model.proofs.Members.{is_in-head, is_in-tail, is_in-cases, is_in-nil}
 use Rattle.finalizer_order.specs.Unvisited.{is_unvisited, leads_on, Reaches, AreWhole}
 use Rattle.finalizer_order.specs.Changes.{changed_at}
 use Rattle.finalizer_order.specs.Marking.{is_unmarked, met, marked_at, Marks}

@@ -15,7 +15,8 @@ use Rattle.object_model.specs.ObjectWords.{words_from, layout_at, words_at}
 use Rattle.object_view.specs.declared.fields.ObjView.{ObjView}
 use Rattle.object_view.specs.Views.{HasView, view_at}
 use Rattle.object_view.proofs.LayoutLaws.{laid_out}
-use Rattle.object_view.proofs.WordLaws.{is_in-head, is_in-tail, is_in-cases, is_in-nil, length-words_from, get_or-words_from}
+use Rattle.object_view.proofs.WordLaws.{length-words_from, get_or-words_from}
+use Rattle.object_model.proofs.Members.{is_in-head, is_in-tail, is_in-cases, is_in-nil}
 use Rattle.finalizer_order.specs.Unvisited.{refs_at, is_unvisited, leads_on, Reaches, AreWhole}
 use Rattle.finalizer_order.specs.Changes.{changed_at}
 use Rattle.finalizer_order.specs.Marking.{is_unmarked, met, marked_at, Marks, MeetsRefs, AreClosed, MarksFrom}

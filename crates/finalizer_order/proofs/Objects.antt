@@ -15,7 +15,8 @@ use Rattle.object_model.specs.Sets.{is_in}
 use Rattle.object_model.specs.ObjectWords.{words_from, type_id_at, layout_at, words_at, Covers}
 use Rattle.object_view.specs.Views.{HasObject}
 use Rattle.object_view.proofs.LayoutLaws.{laid_out, layout_at-same}
-use Rattle.object_view.proofs.WordLaws.{words_from-same, is_in-head, is_in-cases, is_in-nil}
+use Rattle.object_view.proofs.WordLaws.{words_from-same}
+use Rattle.object_model.proofs.Members.{is_in-head, is_in-cases, is_in-nil}
 use Rattle.object_view.proofs.SpaceLaws.{lies-at}
 use Rattle.finalizer_order.specs.Paths.{Leads}
 use Rattle.finalizer_order.specs.Unvisited.{refs_at, is_unvisited, leads_on, Reaches, AreWhole}

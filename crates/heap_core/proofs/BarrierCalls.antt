@@ -27,10 +27,10 @@ use Rattle.heap_parts.specs.Effects.{layout_in, ref_place, with_word_at}
 use Rattle.heap_parts.specs.Remembers.{CanRemember, RemembersItem}
 use Rattle.heap_parts.proofs.PlaceLaws.{old-is_in, is_in-old}
 use Rattle.heap_parts.proofs.HeaderLaws.{HeaderIs, header_is}
-use Rattle.heap_parts.proofs.HeldLaws.{or-either, or-first, or-second}
+use Rattle.object_model.proofs.Members.{or_cases, or_first, or_second}
 use Rattle.heap_parts.proofs.SlotLaws.{slot-pointer}
 use Rattle.heap_parts.proofs.StandLaws.{in_slot, link_stands}
-use Rattle.heap_parts.proofs.LinkLaws.{held_root}
+use Rattle.store_model.proofs.RootLaws.{held_root}
 use Rattle.heap_parts.proofs.MinorNeeds.{settled_place}
 use Rattle.heap_parts.proofs.RememberStands.{remember_stands}
 use Rattle.heap_core.specs.Commands.{AreReady, PartsDo}
@@ -111,13 +111,13 @@ module _ {heap new : HeapParts} {store : Store} (s : PartsStandFor heap store) (
 pub named-held : (card : ℕ) (hs : List Held) (name : ℕ → ℕ) (p i : ℕ) → IsTrue (list_any (λ h. h.place == p && holds_item card h i) hs)
     → IsTrue (list_any (λ h. name h.place == name p && holds_item card h i) hs)
 named-held card [] name p i t = t
-named-held card (h ∷ hs) name p i t = elim (or-either (h.place == p && holds_item card h i) (list_any (λ g. g.place == p && holds_item card g i) hs) t) [
-  | inl here ↦ or-first (name h.place == name p && holds_item card h i) (list_any (λ g. name g.place == name p && holds_item card g i) hs)
+named-held card (h ∷ hs) name p i t = elim (or_cases (h.place == p && holds_item card h i) (list_any (λ g. g.place == p && holds_item card g i) hs) t) [
+  | inl here ↦ or_first (name h.place == name p && holds_item card h i) (list_any (λ g. name g.place == name p && holds_item card g i) hs)
       (elim (eqb_tells h.place p) [
         | inl e ↦ rw (eq-eqb (name h.place) (name p) (ap name e.1)) (subst (λ (b : Bool). IsTrue (b && holds_item card h i)) e.0 here)
         | inr e ↦ absurd (let f : (h.place == p && holds_item card h i) ≡ false = rw e.0 refl in let no : ⊥ = cc in no)
       ])
-  | inr there ↦ or-second (name h.place == name p && holds_item card h i) (list_any (λ g. name g.place == name p && holds_item card g i) hs) (named-held card hs name p i there)
+  | inr there ↦ or_second (name h.place == name p && holds_item card h i) (list_any (λ g. name g.place == name p && holds_item card g i) hs) (named-held card hs name p i there)
 ]
 
 -- the settled object in a slot

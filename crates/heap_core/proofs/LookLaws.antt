@@ -27,10 +27,10 @@ use Rattle.heap_parts.specs.Places.{is_young}
 use Rattle.heap_parts.specs.Lists.{named_queues}
 use Rattle.heap_parts.specs.StandsFor.{PartsStandFor}
 use Rattle.heap_parts.specs.Told.{kind_from, kind_at, if_there, finalizer_places, has_p_link_at, told, room_told}
-use Rattle.heap_parts.proofs.Members.{in-either}
+use Rattle.object_model.proofs.Members.{in-either}
 use Rattle.heap_parts.proofs.PlaceLaws.{placed_words, is_in-young, is_in-old, young-is_in}
 use Rattle.heap_parts.proofs.SlotLaws.{slot-pointer, pointer-some}
-use Rattle.heap_parts.proofs.StructLaws.{value_at-objects}
+use Rattle.store_model.proofs.StructLaws.{value_at-objects}
 use Rattle.heap_parts.proofs.BirthNames.{entries-names, rises-unnamed}
 use Rattle.heap_parts.proofs.ToldLaws.{in-named, p_link-named}
 use Rattle.heap_core.proofs.SlotCalls.{slot-holds}

@@ -26,7 +26,7 @@ use Rattle.heap_parts.proofs.StandLaws.{in_slot}
 use Rattle.heap_parts.proofs.SlotLaws.{pointer-some}
 use Rattle.heap_parts.proofs.BirthNames.{rises-unnamed}
 use Rattle.heap_parts.proofs.ToldLaws.{p_link-named}
-use Rattle.heap_parts.proofs.StructLaws.{first-value}
+use Rattle.store_model.proofs.StructLaws.{first-value}
 use Rattle.heap_parts.proofs.StructStands.{struct-named, inc_stands, make_link_stands}
 use Rattle.heap_parts.proofs.DecStands.{dec_stands, next_dead_stands}
 use Rattle.heap_parts.proofs.ReviveStands.{renamed-none, renamed-full, place_or_nil, to_obj_stands}

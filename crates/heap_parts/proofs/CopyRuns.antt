@@ -26,7 +26,7 @@ use Rattle.heap_parts.specs.Parts.{HeapParts, word_in, place_in}
 use Rattle.heap_parts.specs.Places.{is_young}
 use Rattle.heap_parts.specs.StandsFor.{PartsStandFor}
 use Rattle.heap_parts.specs.Effects.{ref_place, layout_in}
-use Rattle.heap_parts.proofs.HeldLaws.{or-either, or-first, or-second}
+use Rattle.object_model.proofs.Members.{or_cases, or_first, or_second}
 use Rattle.heap_parts.proofs.PlaceLaws.{settled-old}
 use Rattle.heap_parts.proofs.StandLaws.{in_slot}
 use Rattle.heap_parts.proofs.RootStands.{object-found}
@@ -39,13 +39,13 @@ heap_with heap blocks = record heap { memory = record heap.memory { blocks = blo
 items-cover : (card : ℕ) (hs : List Held) (name : ℕ → ℕ) (p i : ℕ) → IsTrue (list_any (λ h. h.place == p && holds_item card h i) hs)
     → IsTrue (list_any (λ h. name h.place == name p && holds_item card h i) hs)
 items-cover card [] name p i t = t
-items-cover card (h ∷ hs) name p i t = elim (or-either (h.place == p && holds_item card h i) (list_any (λ g. g.place == p && holds_item card g i) hs) t) [
-  | inl here ↦ or-first (name h.place == name p && holds_item card h i) (list_any (λ g. name g.place == name p && holds_item card g i) hs)
+items-cover card (h ∷ hs) name p i t = elim (or_cases (h.place == p && holds_item card h i) (list_any (λ g. g.place == p && holds_item card g i) hs) t) [
+  | inl here ↦ or_first (name h.place == name p && holds_item card h i) (list_any (λ g. name g.place == name p && holds_item card g i) hs)
       (elim (eqb_tells h.place p) [
         | inl e ↦ rw (eq-eqb (name h.place) (name p) (ap name e.1)) (subst (λ (b : Bool). IsTrue (b && holds_item card h i)) e.0 here)
         | inr e ↦ absurd (let f : (h.place == p && holds_item card h i) ≡ false = rw e.0 refl in let no : ⊥ = cc in no)
       ])
-  | inr there ↦ or-second (name h.place == name p && holds_item card h i) (list_any (λ g. name g.place == name p && holds_item card g i) hs) (items-cover card hs name p i there)
+  | inr there ↦ or_second (name h.place == name p && holds_item card h i) (list_any (λ g. name g.place == name p && holds_item card g i) hs) (items-cover card hs name p i there)
 ]
 
 -- The heap with these words stands for a store, and the two objects have their parts where they had them.

@@ -13,7 +13,7 @@ use Rattle.object_header.specs.Words.{has_flag, with_flag}
 use Rattle.object_header.specs.declared.flags.Flag.TheVariants.{Visited}
 use Rattle.object_header.proofs.WordLaws.{has_flag-with_flag_same}
 use Rattle.object_model.specs.Sets.{is_in}
-use Rattle.object_view.proofs.WordLaws.{is_in-head, is_in-tail, is_in-cases, is_in-nil}
+use Rattle.object_model.proofs.Members.{is_in-head, is_in-tail, is_in-cases, is_in-nil}
 use Rattle.object_view.proofs.LayoutLaws.{KeepsLayout, keeps-same}
 use Rattle.mark_steps.specs.Visits.{is_outside, is_visited, outside_refs, with_visited, PlaceVisits, NoPlace, PassesPlace, VisitsPlace, CanVisit}
 use Rattle.mark_steps.proofs.VisitStep.{has-first, can-visited, can-passed, keeps-visited, refs-visited}

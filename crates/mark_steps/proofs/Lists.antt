@@ -1,7 +1,7 @@
 -- Members of joined lists.
 use Rattle.std.proofs.Common.{◌≡◌, ℕ, ◌⊎◌, Bool, true, false, IsTrue, List, [], ◌∷◌, ◌++◌, filter, length, drop, refl, ap, subst, inl, inr, arith}
 use Rattle.object_model.specs.Sets.{is_in}
-use Rattle.object_view.proofs.WordLaws.{is_in-head, is_in-tail, is_in-cases, is_in-nil}
+use Rattle.object_model.proofs.Members.{is_in-head, is_in-tail, is_in-cases, is_in-nil}
 
 pub in-either : (x : ℕ) (xs ys : List ℕ) → IsTrue (is_in x (xs ++ ys)) → IsTrue (is_in x xs) ⊎ IsTrue (is_in x ys)
 in-either x [] ys t = inr t

@@ -11,7 +11,7 @@ use Rattle.heap_space.specs.Memory.{Memory}
 use Rattle.object_model.specs.Layout.{Layout}
 use Rattle.object_model.specs.Sets.{is_in}
 use Rattle.object_model.specs.ObjectWords.{words_at}
-use Rattle.object_view.proofs.WordLaws.{is_in-head}
+use Rattle.object_model.proofs.Members.{is_in-head}
 use Rattle.mark_steps.specs.declared.MarkEnd.TheVariants.{Budget, Empty}
 use Rattle.mark_steps.specs.Visits.{is_outside, is_visited, outside_refs, with_visited, PlaceVisits, NoPlace, PassesPlace, VisitsPlace, CanVisit}
 use Rattle.mark_steps.specs.Ends.{StartsWith, Marks}

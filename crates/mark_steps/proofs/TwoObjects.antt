@@ -10,7 +10,7 @@ use Rattle.object_model.specs.Layout.{Layout, layout_of}
 use Rattle.object_model.specs.Sets.{is_in}
 use Rattle.object_model.specs.ObjectWords.{words_from, info_or_weak, layout_at, words_at, Covers}
 use Rattle.object_view.specs.Views.{HasObject}
-use Rattle.object_view.proofs.WordLaws.{is_in-tail, is_in-cases, is_in-nil}
+use Rattle.object_model.proofs.Members.{is_in-tail, is_in-cases, is_in-nil}
 use Rattle.nursery_gaps.specs.Nursery.{Layout as Nursery, unused}
 use Rattle.mark_steps.specs.declared.MarkEnd.{MarkEnd}
 use Rattle.mark_steps.specs.Ends.{Marks}

@@ -13,7 +13,8 @@ use Rattle.object_model.specs.Layout.{Layout}
 use Rattle.object_model.specs.Sets.{is_in}
 use Rattle.object_model.specs.ObjectWords.{words_from, updated, type_id_at, layout_at, words_at}
 use Rattle.object_view.specs.Views.{HasObject}
-use Rattle.object_view.proofs.WordLaws.{updated-here, updated-other, words_from-same, is_in-tail}
+use Rattle.object_view.proofs.WordLaws.{updated-here, updated-other, words_from-same}
+use Rattle.object_model.proofs.Members.{is_in-tail}
 use Rattle.object_view.proofs.LayoutLaws.{KeepsLayout, SameAt, keeps-same, laid_out, layout_at-same}
 use Rattle.object_view.proofs.ChangeLaws.{covers-kept}
 use Rattle.object_view.proofs.SpaceLaws.{word_at-written, lies-at}

@@ -18,7 +18,8 @@ use Rattle.heap_core.specs.declared.fault.HeapFault.{HeapFault}
 use Rattle.heap_parts.specs.Parts.{HeapParts}
 use Rattle.heap_core.specs.Heap.{HeapSeen}
 use Rattle.heap_core.specs.Heap.{StandsFor, StandsForIf}
-use Rattle.heap_core.specs.Commands.{OfParts, AreReady, CanDo, CanDoIf, Bears}
+use Rattle.heap_core.specs.Commands.{OfParts, AreReady, CanDo, CanDoIf}
+use Rattle.heap_core.specs.Bearing.{Bears}
 use Rattle.object_view.proofs.ChangeLaws.{Changes}
 use Rattle.heap_core.proofs.Ready.{passed}
 use Rattle.session_core.specs.Doing.{DoesCommand}

@@ -1,7 +1,9 @@
 //! The commands that are not refused.
 ghost use Rattle.std.specs.Prelude.{OnOk, ◌⊎◌};
 ghost use Rattle.text_model.specs.declared.command.Command.TheVariants.{Get, Load, Same, Used};
-ghost use Rattle.heap_core.specs.Commands.{CanDo, CanBear, Bears};
+ghost use Rattle.heap_core.specs.Commands.{CanDo};
+ghost use Rattle.heap_core.proofs.BirthLaws.{CanBear};
+ghost use Rattle.heap_core.specs.Bearing.{Bears};
 ghost use Rattle.store_model.specs.Births.{array_request};
 ghost use Rattle.session_core.specs.Doing.{DoesCommand};
 

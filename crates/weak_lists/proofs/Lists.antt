@@ -1,7 +1,7 @@
 -- Members of lists that are joined, mapped and filtered.
 use Rattle.std.proofs.Common.{◌≡◌, ℕ, zero, suc, ◌<◌, IsTrue, List, [], ◌∷◌, ◌++◌, map, length, get_or, take, drop, refl, sym, subst, inl, inr, arith}
 use Rattle.object_model.specs.Sets.{is_in}
-use Rattle.object_view.proofs.WordLaws.{is_in-head, is_in-tail, is_in-cases, is_in-nil}
+use Rattle.object_model.proofs.Members.{is_in-head, is_in-tail, is_in-cases, is_in-nil}
 
 -- a member of a mapped list comes from one of the list
 pub record IsMapped (f : ℕ → ℕ) (q : ℕ) (ps : List ℕ) : Type 0 where

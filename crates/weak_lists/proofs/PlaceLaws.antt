@@ -8,7 +8,7 @@ use Rattle.heap_space.specs.Order.{IsInOrder}
 use Rattle.heap_space.proofs.Rising.{has-within}
 use Rattle.object_model.specs.Sets.{is_in}
 use Rattle.object_view.specs.Moving.{place_now}
-use Rattle.object_view.proofs.WordLaws.{is_in-head, is_in-tail}
+use Rattle.object_model.proofs.Members.{is_in-head, is_in-tail}
 use Rattle.object_view.proofs.SpaceLaws.{lies-fits, lies-at}
 use Rattle.object_view.proofs.ForwardLaws.{place_now-moved}
 use Rattle.weak_lists.specs.Targets.{survives, weaks_left, left_at}

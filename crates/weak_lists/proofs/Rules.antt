@@ -16,10 +16,9 @@ use Rattle.object_header.specs.declared.flags.Flag.TheVariants.{Pinned, Visited}
 use Rattle.object_model.specs.Sets.{is_in}
 use Rattle.object_model.specs.ObjectWords.{words_at, info_at}
 use Rattle.object_view.specs.Moving.{place_now}
-use Rattle.object_view.proofs.WordLaws.{is_in-nil}
+use Rattle.object_model.proofs.Members.{is_in-nil, filter-part}
 use Rattle.object_view.proofs.LayoutLaws.{laid_out}
 use Rattle.object_view.proofs.SpaceLaws.{lies-at, lies-fits}
-use Rattle.object_view.proofs.SurvivorLaws.{filter-part}
 use Rattle.weak_lists.specs.Targets.{is_outside, survives, weaks_left, is_gone, followed, is_unvisited, kept_target, target_at}
 use Rattle.weak_lists.specs.Conditions.{IsFollowed, CanFollow, CanClear, CanSettle, CanRead}
 use Rattle.weak_lists.proofs.TargetLaws.{followed-there, followed-gone}

@@ -16,7 +16,7 @@ use Rattle.object_model.specs.Layout.{Layout}
 use Rattle.object_model.specs.Sets.{is_in}
 use Rattle.object_model.specs.ObjectWords.{type_id_at, info_at, Covers}
 use Rattle.object_view.specs.Views.{HasObject}
-use Rattle.object_view.proofs.WordLaws.{is_in-nil, is_in-last, is_in-before, is_in-append}
+use Rattle.object_model.proofs.Members.{is_in-nil, is_in-last, is_in-before, is_in-append}
 use Rattle.object_view.proofs.LayoutLaws.{KeepsLayout, laid_out, weak-at, layout_at-same, info_at-same}
 use Rattle.object_view.proofs.WholeLaws.{has_object-keeps}
 use Rattle.weak_lists.specs.Targets.{target_place, target_at, ChangesTargets, SetsWord}

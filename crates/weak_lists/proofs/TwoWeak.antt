@@ -10,7 +10,7 @@ use Rattle.object_model.specs.Layout.{Layout, layout_of}
 use Rattle.object_model.specs.Sets.{is_in}
 use Rattle.object_model.specs.ObjectWords.{info_or_weak, info_at, layout_at, words_at, Covers}
 use Rattle.object_view.specs.Views.{HasObject}
-use Rattle.object_view.proofs.WordLaws.{is_in-cases, is_in-nil}
+use Rattle.object_model.proofs.Members.{is_in-cases, is_in-nil}
 use Rattle.weak_lists.specs.Targets.{target_at}
 use Rattle.weak_lists.specs.Conditions.{AreObjects, CanClear}
 
