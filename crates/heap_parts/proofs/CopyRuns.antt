@@ -1,5 +1,5 @@
 -- References are copied from the object in one slot to that in another, as through a buffer: one run of words.
-use Rattle.std.proofs.Common.{◌≡◌, ◌≢◌, ℕ, zero, suc, ◌+◌, ◌-◌, ◌<◌, ◌≤◌, Bool, true, false, IsTrue, List, [], ◌∷◌, ◌++◌, length, map, Option, Some, nat_eq, refl, sym, ap, ◌∙◌, subst, inl, inr, arith}
+use Rattle.std.proofs.Common.{◌≡◌, ◌≢◌, ℕ, suc, ◌+◌, ◌-◌, ◌<◌, ◌≤◌, Bool, true, false, IsTrue, List, [], ◌∷◌, ◌++◌, length, map, Option, Some, nat_eq, refl, sym, ap, ◌∙◌, subst, inl, inr, arith}
 use Rattle.std.specs.Prelude.{◌==◌, ◌&&◌, not}
 use Rattle.std.specs.List.{IsDistinct, AllByRecursion, list_any}
 use Rattle.std.proofs.lemmas.Bool.{eq-eqb, cases_Bool, cases_lt}
@@ -10,7 +10,6 @@ use Rattle.object_model.specs.Object.{Object}
 use Rattle.object_model.specs.Fields.{refs_of}
 use Rattle.object_model.specs.Sets.{is_in}
 use Rattle.object_model.specs.ObjectWords.{updated, layout_at, words_at}
-use Rattle.object_model.specs.Holds.{IsPointer}
 use Rattle.object_view.proofs.SpaceLaws.{word_at-written, lies-at}
 use Rattle.object_view.proofs.LayoutLaws.{laid_out}
 use Rattle.object_view.proofs.ChangeLaws.{Changes, changes-updated, each-keeps}
@@ -21,7 +20,7 @@ use Rattle.store_model.specs.Slots.{held}
 use Rattle.store_model.specs.Steps.{ref_at, put_ref}
 use Rattle.store_model.specs.PlainCommands.{copy_refs}
 use Rattle.store_model.proofs.CopyLaws.{copy-none, copy-on, copy-back, refs_in_slot}
-use Rattle.remember_cards.specs.Remembered.{Held, holds_item, is_held, is_held_of}
+use Rattle.remember_cards.specs.Remembered.{Held, holds_item, is_held}
 use Rattle.heap_parts.specs.Parts.{HeapParts, word_in, place_in}
 use Rattle.heap_parts.specs.Places.{is_young}
 use Rattle.heap_parts.specs.StandsFor.{PartsStandFor}
