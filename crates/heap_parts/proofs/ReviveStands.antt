@@ -35,7 +35,7 @@ pub record GetsRevived (heap : HeapParts) (store : Store) (root place : ℕ) (bi
 pub named-kept : {heap : HeapParts} {store : Store} (s : PartsStandFor heap store) (p : ℕ) → IsTrue (is_in p s.places) → IsTrue (is_kept store.kept (s.name p))
 named-kept s p t = rw (found-at p s.words.objects t) refl
 
-renamed-none : (name : ℕ → ℕ) (p : ℕ) → p ≡ 0 → renamed name p ≡ None
+pub renamed-none : (name : ℕ → ℕ) (p : ℕ) → p ≡ 0 → renamed name p ≡ None
 renamed-none name p e = rw e refl
 
 pub renamed-full : (name : ℕ → ℕ) (p : ℕ) → p ≢ 0 → renamed name p ≡ Some (name p)

@@ -6,6 +6,8 @@ use Rattle.std.proofs.lemmas.Bool.{cases_Bool, cases_lt}
 use Rattle.std.proofs.lemmas.Bool.Decides.{nat_tests}
 use Rattle.std.proofs.lemmas.List.Sums.{sum_by-cons}
 use Rattle.std.proofs.lemmas.List.Sorted.{list_any-IsPermutation}
+use Rattle.type_table.specs.declared.info.Shape.{Shape}
+use Rattle.type_table.specs.declared.info.Shape.TheVariants.{Fixed, IntArray, RefArray, Weak}
 use Rattle.type_table.specs.declared.info.TypeInfo.{TypeInfo}
 use Rattle.type_table.specs.Table.{Table, value_at}
 use Rattle.type_table.specs.Words.{words_in}
@@ -23,17 +25,18 @@ use Rattle.object_view.specs.Births.{born_words}
 use Rattle.object_view.proofs.InitLaws.{two-words, lies-part}
 use Rattle.object_view.proofs.WordLaws.{is_in-cases, is_in-nil, is_in-append}
 use Rattle.object_view.proofs.LayoutLaws.{SameAt, laid_out, keeps-same}
-use Rattle.object_view.proofs.NewbornLaws.{BornAt, IsFree, born-is, born-info, born-layout, born-first, birth_holds, free-unmet, request_of, length-born_words}
+use Rattle.object_view.proofs.NewbornLaws.{BornAt, IsFree, header-plain, born-is, born-info, born-layout, born-first, birth_holds, free-unmet, request_for, request-names, more-pointers, length-born_words}
 use Rattle.object_view.proofs.WholeLaws.{born-written, has_object-born, has_object-keeps}
 use Rattle.object_view.specs.Views.{HasObject}
 use Rattle.old_space.specs.HasBlocks.{HasBlocks, IsBlock}
 use Rattle.old_space.proofs.JoinLaws.{HasBlocks-blocks}
-use Rattle.object_model.specs.Newborn.{newborn}
+use Rattle.object_model.specs.Newborn.{Request, newborn}
 use Rattle.store_model.specs.Birth.{with_birth}
 use Rattle.store_model.specs.Store.{Store}
+use Rattle.store_model.specs.Roots.{is_kept}
 use Rattle.object_model.specs.Sets.{is_in}
-use Rattle.object_model.specs.ObjectWords.{updated, words_at, Covers}
-use Rattle.object_model.specs.Holds.{HoldsObjects}
+use Rattle.object_model.specs.ObjectWords.{updated, renamed, target_of, words_at, Covers}
+use Rattle.object_model.specs.Holds.{HoldsObjects, IsPointer}
 use Rattle.heap_parts.specs.Parts.{HeapParts, word_in, home_in}
 use Rattle.heap_parts.specs.Places.{is_young, young_places, old_places, block_at}
 use Rattle.heap_parts.specs.Nursery.{IsWalk, AreWalks, walked, HoldsNursery}
@@ -46,6 +49,7 @@ use Rattle.heap_parts.proofs.BlockLaws.{each-member, blocks-written}
 use Rattle.heap_parts.proofs.WriteWords.{each-reserved}
 use Rattle.heap_parts.proofs.KeepWords.{SameWords, blocks_same}
 use Rattle.heap_parts.proofs.BumpLaws.{nursery_more, ungapped_more}
+use Rattle.heap_parts.proofs.ReviveStands.{named-kept, renamed-none, renamed-full}
 use Rattle.heap_parts.proofs.BirthStands.{IsNew, with_born, birth_stands}
 
 -- objects in a row take the words between the ends of the row
@@ -117,24 +121,48 @@ young_free heap store s n a some fits =
       unmet = free-unmet types w s.places a n some apart;
     }
 
--- an object is written on free words of the nursery
-pub record IsYoungBirth (heap : HeapParts) (store : Store) (s : PartsStandFor heap store) (a : ℕ) (nursery : NurseryLayout) (root type_id items : ℕ) (info : TypeInfo) : Type 0 where
+-- an object is written on free words of the nursery, with the place of a held target if it is weak, and otherwise 0
+pub record IsYoungBirth (heap : HeapParts) (store : Store) (s : PartsStandFor heap store) (a : ℕ) (nursery : NurseryLayout) (root type_id items x : ℕ) (info : TypeInfo) : Type 0 where
   pub known : value_at heap.setup.types type_id ≡ Some info
   pub small : type_id < 65536
+  pub target : IsPointer s.places x
   pub lowest : FitsLowest heap.nursery (words_in info.shape items) a
   pub hands : HandsOut heap.nursery (words_in info.shape items) a nursery
   pub laid : IsLaidOut nursery
   pub limit : heap.unsettled + heap.old_words + words_in info.shape items ≤ heap.setup.settings.limit
   pub next : heap.next + 1 < 2 ^ 63
 
-abbrev pub born_memory : HeapParts → ℕ → ℕ → ℕ → TypeInfo → Memory
-born_memory heap a type_id items info = record heap.memory { blocks = with_run heap.memory.blocks a (born_words info.shape type_id heap.next items) }
+abbrev pub born_memory : HeapParts → ℕ → ℕ → ℕ → ℕ → TypeInfo → Memory
+born_memory heap a type_id items x info = record heap.memory { blocks = with_run heap.memory.blocks a (born_words info.shape type_id heap.next items x) }
 
-young_new : (heap : HeapParts) (store : Store) (s : PartsStandFor heap store) (a : ℕ) (nursery : NurseryLayout) (root type_id items : ℕ) (info : TypeInfo)
-    → IsYoungBirth heap store s a nursery root type_id items info → IsNew heap store s (born_memory heap a type_id items info) a info (request_of root type_id items)
-young_new heap store s a nursery root type_id items info b =
+-- what is asked of the birth, by the names of the places before
+abbrev pub asked_of : {heap : HeapParts} {store : Store} → PartsStandFor heap store → ℕ → ℕ → ℕ → ℕ → TypeInfo → Request
+asked_of s root type_id items x info = request_for s.name root type_id items info.shape x
+
+target-told : (shape : Shape) (o : Option ℕ) (t : ℕ) → target_of shape o ≡ Some t → o ≡ Some t
+target-told (Fixed i r) o t e = absurd (let no : ⊥ = cc in no)
+target-told IntArray o t e = absurd (let no : ⊥ = cc in no)
+target-told RefArray o t e = absurd (let no : ⊥ = cc in no)
+target-told Weak o t e = e
+
+-- the target that is asked for is kept
+pub target-kept : {heap : HeapParts} {store : Store} (s : PartsStandFor heap store) (shape : Shape) (x t : ℕ) → IsPointer s.places x
+    → target_of shape (renamed s.name x) ≡ Some t → IsTrue (is_kept store.kept t)
+target-kept {store = store} s shape x t is e =
+    let told = target-told shape (renamed s.name x) t e in elim is [
+      | inl z ↦ absurd (let none = renamed-none s.name x z in let no : ⊥ = cc in no)
+      | inr held ↦
+          (let above = s.words.objects.above x held in
+          let full = renamed-full s.name x (λ z. absurd (let no : ⊥ = omega (arith, above, z) in no)) in
+          let same : s.name x ≡ t = (let both : Some (s.name x) ≡ Some t = sym full ∙ told in cc) in
+          subst (λ (k : ℕ). IsTrue (is_kept store.kept k)) same (named-kept s x held))
+    ]
+
+young_new : (heap : HeapParts) (store : Store) (s : PartsStandFor heap store) (a : ℕ) (nursery : NurseryLayout) (root type_id items x : ℕ) (info : TypeInfo)
+    → IsYoungBirth heap store s a nursery root type_id items x info → IsNew heap store s (born_memory heap a type_id items x info) a info (asked_of s root type_id items x info)
+young_new heap store s a nursery root type_id items x info b =
     let types = heap.setup.types in let w : ℕ → ℕ = word_in heap in let n : ℕ = words_in info.shape items in
-    let memory : Memory = born_memory heap a type_id items info in
+    let memory : Memory = born_memory heap a type_id items x info in
     let v : ℕ → ℕ = word_at memory.blocks in
     let two = two-words info.shape items in
     let fits = b.lowest.fits in
@@ -143,8 +171,8 @@ young_new heap store s a nursery root type_id items info b =
     let above = free.above in
     let small : heap.nursery.words ≤ 1048576 = omega (arith, s.made.words, s.made.ranges.1) in
     let lies : lies_in_one heap.memory.blocks a n ≡ true = lies-part heap.memory.blocks 1 heap.nursery.words a n s.words.young.whole above (omega (arith, inside)) in
-    let born : BornAt types v w a type_id heap.next items info = born-written heap.memory.blocks types a type_id heap.next items info b.known b.small lies in
-    let size = length-born_words info.shape type_id heap.next items in
+    let born : BornAt types v w a type_id type_id heap.next items x info = born-written heap.memory.blocks types a type_id type_id heap.next items x info b.known (header-plain type_id b.small) lies in
+    let size = length-born_words info.shape type_id heap.next items x in
     let stays : (c : ℕ) → (c < a) ⊎ (a + n ≤ c) → v c ≡ w c = λ c out. born.run.elsewhere c (elim out [ inl l ↦ inl l | inr l ↦ inr (omega (arith, l, size)) ]) in
     let objects_same : (q : ℕ) → IsTrue (is_in q s.places) → SameAt types v w q = λ q t. record {
       same = λ c l r. stays c (elim (cases_lt c a) [
@@ -168,11 +196,12 @@ young_new heap store s a nursery root type_id items info b =
     } in
     let is = born-is s.name root born in
     record {
-      objects = subst (λ (k : ℕ). HoldsObjects types v (s.places ++ a ∷ []) (s.places ++ a ∷ []) (updated s.name a heap.next) (store.kept ++ newborn k info (request_of root type_id items) ∷ [])) (sym s.counts.next_is)
-          (birth_holds root s.words.objects free born fresh);
+      objects = subst (λ (k : ℕ). HoldsObjects types v (s.places ++ a ∷ []) (s.places ++ a ∷ []) (updated s.name a heap.next) (store.kept ++ newborn k info (asked_of s root type_id items x info) ∷ [])) (sym s.counts.next_is)
+          (subst (λ (r : Request). HoldsObjects types v (s.places ++ a ∷ []) (s.places ++ a ∷ []) (updated s.name a heap.next) (store.kept ++ newborn heap.next info r ∷ []))
+          (request-names s.name heap.next root type_id items info.shape x free b.target) (birth_holds root s.words.objects free born fresh (more-pointers s.places a x b.target)));
       whole = λ p t. elim (is_in-append s.places a p t) [
-        | inl e ↦ subst (HasObject memory types) (sym e) (has_object-born heap.memory types a type_id heap.next items info b.known b.small lies)
-        | inr u ↦ has_object-keeps heap.memory memory types p (same.objects.layouts p u) (λ from k l. lies-with_run heap.memory.blocks a (born_words info.shape type_id heap.next items) from k ∙ l) (s.words.whole p u)
+        | inl e ↦ subst (HasObject memory types) (sym e) (has_object-born heap.memory types a type_id type_id heap.next items x info b.known (header-plain type_id b.small) lies)
+        | inr u ↦ has_object-keeps heap.memory memory types p (same.objects.layouts p u) (λ from k l. lies-with_run heap.memory.blocks a (born_words info.shape type_id heap.next items x) from k ∙ l) (s.words.whole p u)
       ];
       same = same;
       info_is = born-info born;
@@ -189,35 +218,35 @@ none-last-block types w home [] a none = ap (λ (o : Option ℕ). cons_option (o
 none-last-block types w home (p ∷ ps) a none = ap (λ (xs : List Extent). cons_option (reserved_block types w home p) xs) (none-last-block types w home ps a none)
 
 -- An object is born in the nursery.
-pub young_birth_stands : (heap : HeapParts) (store : Store) (s : PartsStandFor heap store) (a : ℕ) (nursery : NurseryLayout) (root type_id items : ℕ) (info : TypeInfo)
-    → IsYoungBirth heap store s a nursery root type_id items info
-    → PartsStandFor (with_born heap (born_memory heap a type_id items info) nursery heap.old_blocks a root info (words_in info.shape items)) (with_birth false store info (request_of root type_id items))
-young_birth_stands heap store s a nursery root type_id items info b =
+pub young_birth_stands : (heap : HeapParts) (store : Store) (s : PartsStandFor heap store) (a : ℕ) (nursery : NurseryLayout) (root type_id items x : ℕ) (info : TypeInfo)
+    → IsYoungBirth heap store s a nursery root type_id items x info
+    → PartsStandFor (with_born heap (born_memory heap a type_id items x info) nursery heap.old_blocks a root info (words_in info.shape items)) (with_birth false store info (asked_of s root type_id items x info))
+young_birth_stands heap store s a nursery root type_id items x info b =
     let types = heap.setup.types in let w : ℕ → ℕ = word_in heap in let n : ℕ = words_in info.shape items in
-    let memory : Memory = born_memory heap a type_id items info in
+    let memory : Memory = born_memory heap a type_id items x info in
     let v : ℕ → ℕ = word_at memory.blocks in
-    let new = young_new heap store s a nursery root type_id items info b in
+    let new = young_new heap store s a nursery root type_id items x info b in
     let two = two-words info.shape items in
     let fits = b.lowest.fits in
     let inside = fits.inside in
     let small : heap.nursery.words ≤ 1048576 = omega (arith, s.made.words, s.made.ranges.1) in
     let young : is_young a ≡ true = (let low : a < 4294967296 = omega (arith, inside, small, two) in grind (arith, nat_tests)) in
     let lies : lies_in_one heap.memory.blocks a n ≡ true = lies-part heap.memory.blocks 1 heap.nursery.words a n s.words.young.whole new.above (omega (arith, inside)) in
-    let born : BornAt types v w a type_id heap.next items info = born-written heap.memory.blocks types a type_id heap.next items info b.known b.small lies in
+    let born : BornAt types v w a type_id type_id heap.next items x info = born-written heap.memory.blocks types a type_id type_id heap.next items x info b.known (header-plain type_id b.small) lies in
     let first : v a ≡ type_id = born-first born in
     let flagless : (f : Flag) → has_flag (v a) f ≡ false = λ f. ap (λ (k : ℕ). has_flag k f) first ∙ has_flag-type type_id f b.small in
     let no_home : home_in heap a ≡ None = elim (home_in heap a) as (λ (o : Option ℕ). home_in heap a ≡ o → o ≡ None) [
       | None ↦ λ e. refl
       | Some at ↦ λ e. absurd (new.unmet a (young-is_in s.places a (s.homes.reserved a at e)).0 refl)
     ] refl in
-    let size = length-born_words info.shape type_id heap.next items in
+    let size = length-born_words info.shape type_id heap.next items x in
     let live : List Extent = blocks_of types w (home_in heap) (young_places s.places) (old_places s.places) s.husks [] in
     let written : HasBlocks heap.old_blocks memory live s.waiting =
-    blocks-written heap.old_blocks heap.memory a (born_words info.shape type_id heap.next items) live s.waiting s.words.blocks (λ c low out. inr (omega (arith, low, size, inside, small))) in
+    blocks-written heap.old_blocks heap.memory a (born_words info.shape type_id heap.next items x) live s.waiting s.words.blocks (λ c low out. inr (omega (arith, low, size, inside, small))) in
     let renewed : HasBlocks heap.old_blocks memory (blocks_of types v (home_in heap) (young_places s.places) (old_places s.places) s.husks []) s.waiting =
     subst (λ (xs : List Extent). HasBlocks heap.old_blocks memory xs s.waiting) (blocks_same new.same.objects (home_in heap) []) written in
-    subst (λ (old : Bool). PartsStandFor (with_born heap memory nursery heap.old_blocks a root info n) (with_birth old store info (request_of root type_id items))) (ap not young)
-    (birth_stands heap store s memory nursery heap.old_blocks a info (request_of root type_id items) new
+    subst (λ (old : Bool). PartsStandFor (with_born heap memory nursery heap.old_blocks a root info n) (with_birth old store info (asked_of s root type_id items x info))) (ap not young)
+    (birth_stands heap store s memory nursery heap.old_blocks a info (asked_of s root type_id items x info) new
     (λ e. absurd (let no : ⊥ = cc in no))
     (λ e. record {
       young = record {
@@ -238,11 +267,11 @@ young_birth_stands heap store s a nursery root type_id items info b =
     })
     (subst (λ (ps : List ℕ). HoldsNursery nursery memory types v ps) (sym (young-more s.places a young))
     (nursery_more n a b.hands fits b.laid (omega (arith, two)) (λ p t. new.same.objects.layouts p (young-is_in s.places p t).0) new.size
-    (λ from k. lies-with_run heap.memory.blocks a (born_words info.shape type_id heap.next items) from k) s.words.young))
+    (λ from k. lies-with_run heap.memory.blocks a (born_words info.shape type_id heap.next items x) from k) s.words.young))
     (subst (λ (ps : List ℕ). HasBlocks heap.old_blocks memory (blocks_of types v (home_in heap) (young_places (s.places ++ a ∷ [])) ps s.husks []) s.waiting) (sym (old-same s.places a young))
     (subst (λ (xs : List Extent). HasBlocks heap.old_blocks memory (map (block_at types v) (old_places s.places) ++ (map (block_at types v) s.husks ++ (xs ++ []))) s.waiting)
     (sym (ap (λ (ps : List ℕ). reserved_blocks types v (home_in heap) ps) (young-more s.places a young) ∙ none-last-block types v (home_in heap) (young_places s.places) a no_home)) renewed))
     (ungapped_more heap.gapped n a b.hands b.lowest s.words.young.laid_out (omega (arith, two)) s.ungapped)
     (λ e. absurd (let no : ⊥ = cc in no))
     (ap (λ (l : NurseryLayout). l.words) b.hands.is, ap (λ (l : NurseryLayout). l.pins) b.hands.is)
-    (refl, refl, refl) b.limit b.next (λ t e. absurd (let no : ⊥ = cc in no)))
+    (refl, refl, refl) b.limit b.next (λ t e. target-kept s info.shape x t b.target e))

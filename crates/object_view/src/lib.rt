@@ -4,7 +4,7 @@
 mod birth;
 mod fields;
 
-pub use birth::init;
+pub use birth::{Birth, init};
 pub use fields::{ObjView, int_at, ref_at, set_int, set_ref, view};
 
 #[cfg(test)]

@@ -41,7 +41,13 @@ fn newborn(space: &mut Space, types: &TypeTable, info: TypeInfo, len: u64) -> Ob
     ensures view { result ≡ view_of 7 9 (layout_of info.shape 5 len) }
     ensures whole { HasView space.new result 5 }
 {
-    init(space, 5, 7, 9, info, len);
+    let birth = Birth {
+        header: 7,
+        number: 9,
+        len,
+        target: 0,
+    };
+    init(space, 5, info, birth);
     view(space, types, 5)
 }
 

@@ -29,6 +29,17 @@ fn replayed(
     read_fails: &[u64],
     write_fails: &[u64],
 ) -> Result<Outcome, AllocError> {
+    answered(alloc, &["replay", "s"], script, read_fails, write_fails)
+}
+
+/// Runs the program for words. The script is the one file, by the name `s`.
+fn answered(
+    alloc: Global,
+    words: &[&str],
+    script: &[u8],
+    read_fails: &[u64],
+    write_fails: &[u64],
+) -> Result<Outcome, AllocError> {
     let mut named = Vec::new(alloc);
     named.push(NamedFile {
         name: Vec::from_slice(alloc, b"s")?,
@@ -38,10 +49,11 @@ fn replayed(
     let mut out = MemSink::new(alloc, 10_000, Vec::from_slice(alloc, write_fails)?)?;
     let mut err = MemSink::new(alloc, 1000, Vec::new(alloc))?;
     let mut heap = Heap::closed();
-    let mut words = Vec::new(alloc);
-    words.push(String::from_str(alloc, "replay")?)?;
-    words.push(String::from_str(alloc, "s")?)?;
-    let status = run(alloc, &words, &mut files, &mut out, &mut err, &mut heap);
+    let mut texts = Vec::new(alloc);
+    for word in words {
+        texts.push(String::from_str(alloc, word)?)?;
+    }
+    let status = run(alloc, &texts, &mut files, &mut out, &mut err, &mut heap);
     Ok(Outcome {
         status,
         out: Vec::from_slice(alloc, out.written())?,
@@ -291,6 +303,27 @@ fn scripts_end_as_told(rt: HostRuntime) -> Result<(), Fail> {
     Ok(())
 }
 
+#[test]
+fn other_words_are_usage(rt: HostRuntime) -> Result<(), Fail> {
+    let others: [&[&str]; 5] = [
+        &[],
+        &["replay"],
+        &["bench", "7"],
+        &["replay", "s", "s"],
+        &["Replay", "s"],
+    ];
+    for words in others {
+        let got = answered(rt.alloc(), words, b"", &[], &[])?;
+        assert_eq!(rt; got.out.as_slice(), b"".as_slice());
+        assert_eq!(rt;
+            got.err.as_slice(),
+            b"usage: replay FILE, or bench START COUNT\n".as_slice()
+        );
+        assert_eq!(rt; got.status, Status::Usage);
+    }
+    Ok(())
+}
+
 /// A script of three lines that print, the last of them without LF.
 const PRINTING: &[u8] = b"type 1 fixed 1 0\nnew 0 1\nput 0 0 9\nget 0 0\nget 0 0";
 
@@ -301,14 +334,29 @@ fn faults_end_a_run_where_they_come(rt: HostRuntime) -> Result<(), Fail> {
     assert_eq!(rt; got.out.as_slice(), b"new 1 young\n".as_slice());
     assert_eq!(rt; got.err.as_slice(), b"write fault\n".as_slice());
 
-    let got = replayed(rt.alloc(), PRINTING, &[1], &[])?;
-    assert_eq!(rt; got.status, Status::ReadFault);
-    assert_eq!(rt; got.out.as_slice(), b"".as_slice());
-    assert_eq!(rt; got.err.as_slice(), b"read fault\n".as_slice());
+    // The file is not begun, the first read fails, the name is not there.
+    let not_read = [
+        replayed(rt.alloc(), PRINTING, &[1], &[])?,
+        replayed(rt.alloc(), PRINTING, &[2], &[])?,
+        answered(rt.alloc(), &["replay", "t"], PRINTING, &[], &[])?,
+    ];
+    for got in &not_read {
+        assert_eq!(rt; got.status, Status::ReadFault);
+        assert_eq!(rt; got.out.as_slice(), b"".as_slice());
+        assert_eq!(rt; got.err.as_slice(), b"read fault\n".as_slice());
+    }
 
     // The whole lines of a piece are done before the next read, and of a line that breaks off nothing is.
     let got = replayed(rt.alloc(), PRINTING, &[3], &[])?;
     assert_eq!(rt; got.status, Status::ReadFault);
     assert_eq!(rt; got.out.as_slice(), b"new 1 young\ngot 9\n".as_slice());
+
+    // A line that is refused ends the run before a read that would fail.
+    let got = replayed(rt.alloc(), b"get 0 0\n", &[3], &[])?;
+    assert_eq!(rt; got.status, Status::Malformed);
+    assert_eq!(rt;
+        got.err.as_slice(),
+        b"malformed: line 1: NilRoot\n".as_slice()
+    );
     Ok(())
 }

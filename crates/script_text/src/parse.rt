@@ -9,7 +9,8 @@ ghost use Rattle.script_text.specs.Words.{words_in, type_of};
 use crate::objects::parse_command;
 use crate::ranges::type_number;
 use crate::words::{Words, one_number, split_word, take_end, take_number};
-use text_model::{BadLine, Item, Shape, TypeInfo};
+use text_model::{BadLine, Item};
+use type_table::{Shape, TypeInfo};
 
 /// What a line says, of which its LF is no part. Its words stand with one space between two; a number is written in
 /// decimal digits with no zero in front. `Range` is answered where the line has a form and a number is above the greatest

@@ -1,5 +1,5 @@
 -- Worked scripts, whose transcripts the definitions allow: the form of a row, and how it is proved by computation.
-use Rattle.std.proofs.Common.{◌≡◌, ℕ, ◌+◌, ◌<◌, Bool, true, false, IsTrue, List, [], ◌∷◌, ◌++◌, map, length, Option, Some, None, refl, sym, ap, ◌∙◌, subst, inl, inr}
+use Rattle.std.proofs.Common.{◌≡◌, ℕ, ◌+◌, ◌<◌, Bool, true, false, IsTrue, List, [], ◌∷◌, ◌++◌, map, length, Option, Some, None, refl, sym, ap, ◌∙◌, subst, inl, inr, ◌⊎◌}
 use Rattle.std.specs.Prelude.{◌&&◌, is_none, nat_lt, flat_map, codes, bytes_eq, Result, Ok, Err}
 use Prim.Native.String.{String}
 use Rattle.std.proofs.lemmas.Bool.{false≢true}
@@ -22,7 +22,7 @@ use Rattle.text_model.specs.Numbers.{number_of}
 use Rattle.text_model.specs.CommandGrammar.{new_form, link_form, copy_form, structure_form, slot_form, command_form}
 use Rattle.text_model.specs.Grammar.{setting_of, setting_form, shape_words, type_form, form_of, item_of}
 use Rattle.text_model.specs.Script.{reading, readings}
-use Rattle.store_model.specs.EndOfRun.{IsDone, IsRefused, ExceedsLimit}
+use Rattle.store_model.specs.EndOfRun.{IsDone, ExceedsLimit}
 use Rattle.store_model.proofs.Rounds.{and_first, and_second}
 use Rattle.store_model.proofs.Computed.{Choice, Outcome, Out, ok_of, lines_in, store_in, left_in, outcome, room_of, is_empty}
 use Rattle.store_model.proofs.Strict as strict
@@ -33,6 +33,11 @@ use Rattle.store_model.proofs.AllowedCommands.{outcome-means}
 unfoldable pub computes : Unit {0}
 unfolding reading item_of form_of setting_form setting_of shape_words type_form command_form slot_form structure_form new_form link_form copy_form number_of is_above refusal_seen words_text digits
 computes = tt
+
+-- the language refuses line k where a script stands at `at`: it says nothing, or its item is refused
+abbrev pub IsRefused : Progress → ℕ → List ℕ → Reason → Type 0
+IsRefused at k line reason =
+    (reading k line ≡ Err reason) ⊎ ((item : Item) × (reading k line ≡ Ok item) × (refusal at item ≡ Some reason))
 
 -- what items add, whether they may, where they lead, and the choices that are left
 pub record Played : Type 0 where

@@ -6,6 +6,7 @@ use Rattle.text_model.specs.declared.item.Reason.{Reason}
 use Rattle.store_model.specs.Store.{Store}
 use Rattle.store_model.specs.Progress.{Progress, at_start}
 use Rattle.store_model.specs.Refusal.{refusal}
+use Rattle.store_model.specs.Unbuilt.{program_refusal}
 use Rattle.store_model.specs.Transcript.{Group, ItemDoes, ItemExceeds, Runs, transcript_text}
 use Rattle.text_model.specs.Lines.{lines_of, whole_lines_of}
 use Rattle.text_model.specs.Script.{reading, readings}
@@ -18,10 +19,10 @@ pub record IsDone (lines : List (List ℕ)) (text : List ℕ) (after : Progress)
   pub runs : Runs at_start items groups after
   pub text_is : text ≡ transcript_text groups
 
--- line k is refused where a script stands at `at`: it says nothing, or its item is refused
+-- line k is refused where a script stands at `at`: it says nothing, or the program refuses its item
 abbrev pub IsRefused : Progress → ℕ → List ℕ → Reason → Type 0
 IsRefused at k line reason =
-    (reading k line ≡ Err reason) ⊎ ((item : Item) × (reading k line ≡ Ok item) × (refusal at item ≡ Some reason))
+    (reading k line ≡ Err reason) ⊎ ((item : Item) × (reading k line ≡ Ok item) × (program_refusal at item ≡ Some reason))
 
 -- line k says an item that is not refused at `at`, and adds these groups
 pub record TakesLine (at : Progress) (k : ℕ) (line : List ℕ) (groups : List Group) (after : Progress) : Type 0 where

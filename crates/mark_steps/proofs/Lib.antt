@@ -1,0 +1,4 @@
+pub mod Refs
+pub mod Lists
+pub mod VisitStep
+pub mod MarkLoop
