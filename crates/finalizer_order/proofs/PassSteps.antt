@@ -157,8 +157,8 @@ module _ {types : Table TypeInfo} {nursery : ℕ} {old : Memory} {registered : L
         let more = filter-yes (is_unvisited nursery (word_at old.blocks)) done x u in
         made more (
           all_stay can order f.marks_all dying-there x (unvisited_of nursery old done ++ x ∷ []) from
-          (λ h v. elim (in-either h (unvisited_of nursery old done) (x ∷ []) v) [ inl a ↦ inr a | inr b ↦ inl (in-one h x b) ])
-          (λ h v. in-left h (unvisited_of nursery old done) (x ∷ []) v),
+              (λ h v. elim (in-either h (unvisited_of nursery old done) (x ∷ []) v) [ inl a ↦ inr a | inr b ↦ inl (in-one h x b) ])
+              (λ h v. in-left h (unvisited_of nursery old done) (x ∷ []) v),
           candidates_stay (Reaches types nursery (word_at old.blocks)) self-reaches joins-reaches (unvisited_of nursery old done) candidates x f.are_candidates from,
         )
     | inr u ↦ made (filter-no (is_unvisited nursery (word_at old.blocks)) done x u) (f.marks_all, f.are_candidates)

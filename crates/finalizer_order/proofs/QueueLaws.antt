@@ -4,9 +4,10 @@ use Rattle.std.specs.Prelude.{slice_get, option_map, unwrap_or, nat_lt, cond, no
 use Rattle.std.proofs.lemmas.Bool.{cases_Bool, eq-eqb, ne_eqb}
 use Rattle.std.proofs.lemmas.Bool.Decides.{eqb_tells, nat_tests}
 use Rattle.std.proofs.lemmas.List.Sums.{sum_by-append}
+use lib.ListN.{length-replicate}
 use Rattle.type_table.specs.Table.{Table, value_at, with_value, without_key}
 use Rattle.finalizer_order.specs.declared.entry.Entry.{Entry}
-use Rattle.finalizer_order.specs.Finalizers.{Finalizers, queued_entries}
+use Rattle.finalizer_order.specs.Finalizers.{Finalizers, no_finalizers, places_of, queued_entries}
 use Rattle.finalizer_order.specs.Queues.{first_of, without_first, next_place, take_next, queues_with, tabled, AreInRange, push_all, joined}
 use Rattle.finalizer_order.specs.Listed.{times_of}
 
@@ -239,3 +240,23 @@ flush_view qs after registered chosen left f is r queued none =
     subst (λ (g : Finalizers). view_of registered left after ≡ record g { chosen = []; queues = queues_with g.queues g.chosen }) is
     (ap₂ (λ (es : List Entry) (ks : List (List Entry)). view_of registered es ks) none queued
     ∙ ap₂ (λ (n : ℕ) (t : Table (List Entry)). finals_of n registered [] t) (length-push_all qs chosen) (pushed qs chosen r))
+
+-- the places of what waits
+pub waiting_are : (qs : List (List Entry)) (registered chosen : List Entry) (f : Finalizers) (before mid after : List ℕ) → view_of registered chosen qs ≡ f
+    → mid ≡ before ++ places_of (joined qs) → after ≡ mid ++ places_of chosen → after ≡ before ++ (places_of (queued_entries f.queues) ++ places_of f.chosen)
+waiting_are qs registered chosen f before mid after is queued rest =
+    subst (λ (g : Finalizers). after ≡ before ++ (places_of (queued_entries g.queues) ++ places_of g.chosen)) is
+    (rest ∙ ap (λ (xs : List ℕ). xs ++ places_of chosen) queued
+    ∙ append_assoc before (places_of (joined qs)) (places_of chosen)
+    ∙ ap (λ (es : List Entry). before ++ (places_of es ++ places_of chosen)) (sym (joined-tabled 0 qs)))
+
+replicate-suc : (e : List Entry) (n : ℕ) → replicate (suc n) e ≡ replicate n e ++ e ∷ []
+replicate-suc e zero = refl
+replicate-suc e (suc n) = ap (λ (qs : List (List Entry)). e ∷ qs) (replicate-suc e n)
+
+pub replicate-last : (e : List Entry) (n : ℕ) → replicate (n + 1) e ≡ replicate n e ++ e ∷ []
+replicate-last e n = ap (λ (k : ℕ). replicate k e) (let z : n + 1 ≡ suc n = omega arith in z) ∙ replicate-suc e n
+
+-- no object is listed at first
+pub new_view : (qs : List (List Entry)) (n : ℕ) → qs ≡ replicate n [] → view_of [] [] qs ≡ no_finalizers n
+new_view qs n is = ap (view_of [] []) is ∙ ap₂ (λ (k : ℕ) (t : Table (List Entry)). finals_of k [] [] t) (length-replicate n []) (tabled-empty 0 n)

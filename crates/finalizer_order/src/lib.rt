@@ -16,10 +16,10 @@ mod entry;
 mod marking;
 mod passes;
 mod queue;
-
 #[cfg(test)]
 mod tests;
 
+pub use crate::entry::Entry;
 use crate::entry::append_places;
 use crate::passes::Passes;
 use crate::queue::{Queue, append_queued, empty_queues, queue_all};
@@ -30,8 +30,6 @@ use std::alloc::{AllocError, Global};
 use std::marker::Model;
 use std::mem;
 use type_table::TypeTable;
-
-pub use crate::entry::Entry;
 
 /// How many objects a new list has room for.
 const FIRST_ROOM: usize = 16;

@@ -111,7 +111,11 @@ impl Passes {
 
     /// Visits the marked objects, takes the flags of the passes off them, and appends their births, by
     /// rising birth. Without memory nothing is appended.
-    pub(crate) fn settle(&mut self, space: &mut Space, kept: &mut Vec<u64>) -> Result<(), AllocError>
+    pub(crate) fn settle(
+        &mut self,
+        space: &mut Space,
+        kept: &mut Vec<u64>,
+    ) -> Result<(), AllocError>
         requires { HaveHeads space.old self.old.marked.items }
         ensures settled { OnOk result
             (Settles self.old.marked.items space.old space.new kept.old.items kept.new.items) }
@@ -226,11 +230,7 @@ fn split(
 }
 
 // Visits the marked objects, takes the flags of the passes off them, and appends their births.
-fn visit_all(
-    space: &mut Space,
-    marked: &[u64],
-    births: &mut Vec<u64>,
-) -> Result<(), AllocError>
+fn visit_all(space: &mut Space, marked: &[u64], births: &mut Vec<u64>) -> Result<(), AllocError>
     requires { HaveHeads space.old marked.now }
     ensures visited { OnOk result
         (space.new ≡ record space.old { blocks = changed_at settled_word marked.now space.old.blocks }) }
