@@ -15,7 +15,7 @@ use Rattle.store_model.specs.Structs.{state_of, p_link_of}
 use Rattle.rawref_links.specs.Conditions as links
 use Rattle.heap_parts.specs.Parts.{HeapParts, word_in, place_in}
 use Rattle.heap_parts.specs.Told.{kind_at, if_there}
-use Rattle.heap_parts.proofs.StructStands as rises
+use Rattle.store_model.proofs.StructChanges as rises
 use Rattle.heap_core.specs.Commands.{AreReady}
 use Rattle.heap_core.proofs.Ready.{passed, one_slot, slot_in, or_false, no_birth}
 
