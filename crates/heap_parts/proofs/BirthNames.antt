@@ -10,7 +10,7 @@ use Rattle.object_view.proofs.WordLaws.{is_in-head, is_in-tail, map-same}
 use Rattle.store_model.specs.Store.{Struct, Linked, Unlinked, Pending}
 use Rattle.object_model.specs.Sets.{is_in}
 use Rattle.store_model.specs.Structs.{Structs, object_of, with_object, with_objects}
-use Rattle.heap_parts.specs.Remembered.{Held, Remembered, holds_item, is_held_of}
+use Rattle.remember_cards.specs.Remembered.{Held, Remembered, holds_item, is_held_of}
 use Rattle.heap_parts.specs.Places.{AreAmong}
 use Rattle.heap_parts.specs.Lists.{named_entries, named_queues, HoldsList, HoldsEntries, HoldsQueues, HoldsLinks}
 use Rattle.heap_parts.specs.StandsFor.{HoldsFinalizers}

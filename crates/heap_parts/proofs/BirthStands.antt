@@ -32,7 +32,7 @@ use Rattle.object_model.specs.ObjectWords.{renamed, updated, words_at, info_at, 
 use Rattle.object_model.specs.Holds.{HoldsObjects, IsPointer}
 use Rattle.store_model.specs.MarkingOrder.{IsInOrder}
 use Rattle.heap_parts.specs.Parts.{HeapParts, word_in, home_in}
-use Rattle.heap_parts.specs.Remembered.{Held, Remembered, has_any, is_held_whole, has_held_cards, is_held_of}
+use Rattle.remember_cards.specs.Remembered.{Held, Remembered, has_any, is_held_whole, has_held_cards, is_held_of}
 use Rattle.heap_parts.specs.Places.{is_young, young_places, old_places, AreWhole, AreAmong, OfFirsts, RiseBetween, is_weak_at}
 use Rattle.heap_parts.specs.Nursery.{HoldsNursery, IsUngapped}
 use Rattle.heap_parts.specs.OldSpace.{HoldsBlocks, reserved_homes, is_waiting}

@@ -8,7 +8,7 @@ use Rattle.object_model.specs.Sets.{is_in}
 use Rattle.store_model.specs.Slots.{object_in}
 use Rattle.store_model.specs.Steps.{ref_at, put_ref}
 use Rattle.store_model.specs.Roots.{referents_in}
-use Rattle.heap_parts.specs.Remembered.{is_held_of}
+use Rattle.remember_cards.specs.Remembered.{is_held_of}
 use Rattle.heap_parts.specs.Parts.{HeapParts, word_in, place_in}
 use Rattle.heap_parts.specs.StandsFor.{PartsStandFor}
 use Rattle.heap_parts.specs.Effects.{with_word_at, ref_place, layout_in}

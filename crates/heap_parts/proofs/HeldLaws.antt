@@ -7,7 +7,7 @@ use Rattle.std.proofs.lemmas.Bool.Decides.{eqb_tells}
 use Rattle.object_view.proofs.WordLaws.{is_in-head, is_in-tail, is_in-cases}
 use Rattle.object_model.specs.Sets.{is_in}
 use Rattle.store_model.specs.MarkingOrder.{HeldSettled}
-use Rattle.heap_parts.specs.Remembered.{Held, Remembered, held_whole, hold_whole, with_whole, held_places, is_held_whole, has_held_cards, is_held_of, holds_item, has_any}
+use Rattle.remember_cards.specs.Remembered.{Held, Remembered, held_whole, hold_whole, with_whole, held_places, is_held_whole, has_held_cards, is_held_of, holds_item, has_any}
 use Rattle.heap_parts.specs.Places.{AreAmong}
 use Rattle.heap_parts.proofs.Births.{is_in-named}
 

@@ -22,7 +22,7 @@ use Rattle.object_model.specs.Sets.{is_in}
 use Rattle.object_model.specs.ObjectWords.{info_at}
 use Rattle.object_model.specs.Shapes.{is_weak_shape}
 use Rattle.object_model.specs.Holds.{HoldsObjects}
-use Rattle.heap_parts.specs.Remembered.{Remembered}
+use Rattle.remember_cards.specs.Remembered.{Remembered}
 use Rattle.heap_parts.specs.Places.{young_places, old_places, OfFirsts, is_weak_at}
 use Rattle.heap_parts.specs.Nursery.{AreWalks, walked, HoldsNursery}
 use Rattle.heap_parts.specs.OldSpace.{reserved_block, reserved_blocks, reserved_homes, blocks_of, husk_at, HoldsHusks}

@@ -11,7 +11,7 @@ use Rattle.store_model.specs.Slots.{held}
 use Rattle.store_model.specs.Steps.{put_ref}
 use Rattle.store_model.specs.Roots.{roots_of}
 use Rattle.object_model.specs.ObjectWords.{renamed}
-use Rattle.heap_parts.specs.Remembered.{Held, is_held_of, holds_item, with_whole}
+use Rattle.remember_cards.specs.Remembered.{Held, is_held_of, holds_item, with_whole}
 use Rattle.heap_parts.specs.Parts.{HeapParts, place_in}
 use Rattle.heap_parts.specs.Places.{old_places}
 use Rattle.heap_parts.specs.StandsFor.{PartsStandFor}

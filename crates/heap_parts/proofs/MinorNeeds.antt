@@ -13,7 +13,7 @@ use Rattle.object_model.specs.Sets.{is_in}
 use Rattle.object_model.specs.Fields.{refs_of, ref_in}
 use Rattle.store_model.specs.MarkingOrder.{IsItem}
 use Rattle.object_model.specs.ObjectWords.{renamed, object_from, layout_at}
-use Rattle.heap_parts.specs.Remembered.{Held, is_held, holds_item}
+use Rattle.remember_cards.specs.Remembered.{Held, is_held, holds_item}
 use Rattle.heap_parts.specs.Parts.{HeapParts, word_in}
 use Rattle.heap_parts.specs.Places.{is_young, old_places, AreAmong}
 use Rattle.heap_parts.specs.StandsFor.{PartsStandFor}

@@ -9,10 +9,11 @@ use Rattle.object_view.proofs.LayoutLaws.{info_at-same}
 use Rattle.object_model.specs.Layout.{Layout}
 use Rattle.store_model.specs.Store.{Store}
 use Rattle.object_model.specs.Sets.{is_in}
-use Rattle.heap_parts.specs.Remembered.{Held, Remembered, held_places, is_held_whole, has_held_cards, is_held_of}
+use Rattle.remember_cards.specs.Remembered.{Remembered, RemembersMore, held_places, is_held_whole, has_held_cards, is_held_of}
 use Rattle.heap_parts.specs.Parts.{HeapParts, word_in}
 use Rattle.heap_parts.specs.Places.{is_young, young_places, old_places, AreAmong}
-use Rattle.heap_parts.specs.Headers.{IsSettledHeader, IsTracked, keeps_cards}
+use Rattle.heap_parts.specs.Headers.{IsSettledHeader, keeps_cards}
+use Rattle.remember_cards.specs.Tracking.{IsTracked}
 use Rattle.heap_parts.specs.StandsFor.{PartsStandFor}
 use Rattle.heap_parts.specs.Effects.{with_word_at}
 use Rattle.heap_parts.proofs.PlaceLaws.{young-is_in, old-is_in}
@@ -21,14 +22,6 @@ use Rattle.heap_parts.proofs.BarrierLaws.{firsts-but}
 use Rattle.heap_parts.proofs.HeaderLaws.{header_is}
 use Rattle.heap_parts.proofs.HeldLaws.{held_settled}
 use Rattle.heap_parts.proofs.OrderLaws.{plain_in_order}
-
--- more is remembered of the object at a place, and no less of others
-pub record RemembersMore (old new : Remembered) (p : ℕ) : Type 0 where
-  pub card : new.card ≡ old.card
-  pub there : (q : ℕ) → IsTrue (is_in q (held_places new)) → (q ≡ p) ⊎ IsTrue (is_in q (held_places old))
-  pub more : (name : ℕ → ℕ) (x i : ℕ) → IsTrue (is_held_of old name x i) → IsTrue (is_held_of new name x i)
-  pub whole_other : (q : ℕ) → q ≢ p → is_held_whole new q ≡ is_held_whole old q
-  pub cards_other : (q : ℕ) → q ≢ p → has_held_cards new q ≡ has_held_cards old q
 
 -- the heap with another first word of an object and with this remembered
 abbrev pub with_remembered : HeapParts → ℕ → ℕ → Remembered → HeapParts
@@ -97,9 +90,3 @@ remember_stands heap store p x remembered s t type settled visited carded tracke
       }) s.order;
       sound = s.sound;
     }
-
--- a card of an array is remembered
-abbrev pub hold_card : List Held → ℕ → ℕ → List Held
-hold_card [] place card = record { place = place; is_whole = false; cards = card ∷ [] } ∷ []
-hold_card (held ∷ rest) place card =
-    if held.place == place then record held { cards = if is_in card held.cards then held.cards else held.cards ++ card ∷ [] } ∷ rest else held ∷ hold_card rest place card

@@ -17,7 +17,7 @@ use Rattle.object_model.specs.Fields.{changed_at, with_int, with_ref}
 use Rattle.store_model.specs.Steps.{put_int}
 use Rattle.object_model.specs.ObjectWords.{renamed, updated, words_at}
 use Rattle.object_model.specs.Holds.{HoldsObjects, IsPointer}
-use Rattle.heap_parts.specs.Remembered.{is_held_of}
+use Rattle.remember_cards.specs.Remembered.{is_held_of}
 use Rattle.heap_parts.specs.Parts.{HeapParts, word_in, place_in, home_in}
 use Rattle.heap_parts.specs.Places.{young_places, old_places}
 use Rattle.heap_parts.specs.StandsFor.{PartsStandFor}

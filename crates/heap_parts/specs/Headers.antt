@@ -10,7 +10,6 @@ use Rattle.text_model.specs.declared.line.Phase.{Phase}
 use Rattle.text_model.specs.declared.line.Phase.TheVariants.{Scanning, Marking, Sweeping, Finalizing}
 use Rattle.object_model.specs.Sets.{is_in}
 use Rattle.object_model.specs.ObjectWords.{info_at, layout_at}
-use Rattle.heap_parts.specs.Remembered.{Remembered, is_held_whole, has_held_cards}
 use Rattle.heap_parts.specs.OldSpace.{is_waiting}
 
 -- a header without the flags of free blocks, and of the pass that orders finalizers
@@ -60,11 +59,6 @@ keeps_cards card (Fixed ints refs) count = false
 keeps_cards card IntArray count = false
 keeps_cards card RefArray count = nat_lt card count
 keeps_cards card Weak count = false
-
--- the flags of a settled object that tell what is remembered of it
-pub record IsTracked (remembered : Remembered) (place word : ℕ) : Type 0 where
-  pub track : has_flag word Track ≡ not (is_held_whole remembered place)
-  pub cards_set : has_flag word CardsSet ≡ has_held_cards remembered place
 
 -- a settled object has the flag exactly where it keeps cards
 abbrev pub IsCarded : Table TypeInfo → ℕ → (ℕ → ℕ) → ℕ → Type 0

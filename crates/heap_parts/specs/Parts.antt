@@ -14,7 +14,7 @@ use Rattle.object_model.specs.Setup.{Setup, small_words}
 use Rattle.store_model.specs.Structs.{Structs}
 use Rattle.old_space.specs.HasBlocks.{HasBlocks, greatest_small}
 use Rattle.old_space.specs.declared.Old.{Old}
-use Rattle.heap_parts.specs.Remembered.{Remembered, nothing_held}
+use Rattle.remember_cards.specs.Remembered.{Remembered, nothing_held}
 
 -- what a heap has that was started; objects go by their places
 pub record HeapParts : Type 0 where

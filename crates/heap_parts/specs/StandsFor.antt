@@ -21,12 +21,13 @@ use Rattle.store_model.specs.Sound.{IsSound}
 use Rattle.store_model.specs.MarkingOrder.{IsInOrder}
 use Rattle.old_space.specs.HasBlocks.{greatest_small}
 use Rattle.old_space.specs.declared.Old.{Old}
-use Rattle.heap_parts.specs.Remembered.{Remembered, held_places, is_held_of}
+use Rattle.remember_cards.specs.Remembered.{Remembered, held_places, is_held_of}
 use Rattle.heap_parts.specs.Parts.{HeapParts, word_in, home_in}
 use Rattle.heap_parts.specs.Places.{young_places, old_places, AreAmong, AreWhole, OfFirsts, RiseBetween, is_weak_at}
 use Rattle.heap_parts.specs.Nursery.{HoldsNursery, IsUngapped}
 use Rattle.heap_parts.specs.OldSpace.{HoldsBlocks, HoldsHusks, AreUnitsSwept, AreReservedForYoung, AreHomes, reserved_homes}
-use Rattle.heap_parts.specs.Headers.{IsSettledHeader, IsHuskHeader, IsShadowHeader, IsYoungHeader, is_marked, IsTracked, IsCarded}
+use Rattle.heap_parts.specs.Headers.{IsSettledHeader, IsHuskHeader, IsShadowHeader, IsYoungHeader, is_marked, IsCarded}
+use Rattle.remember_cards.specs.Tracking.{IsTracked}
 use Rattle.heap_parts.specs.Lists.{HoldsSlots, HoldsEntries, HoldsQueues, HoldsLinks}
 use Rattle.heap_parts.specs.Order.{OrderOf, IsGrayOf, IsInOrderButYoung}
 

@@ -20,7 +20,7 @@ use Rattle.object_model.specs.Sets.{is_in}
 use Rattle.object_model.specs.Fields.{refs_of}
 use Rattle.store_model.specs.Roots.{referents_in}
 use Rattle.store_model.specs.MarkingOrder.{IsItem, IsInOrder}
-use Rattle.heap_parts.specs.Remembered.{Held, Remembered, is_held_whole, has_held_cards, is_held_of, holds_item, has_any}
+use Rattle.remember_cards.specs.Remembered.{Held, Remembered, is_held_whole, has_held_cards, is_held_of, holds_item, has_any}
 use Rattle.heap_parts.specs.Places.{young_places, old_places}
 use Rattle.heap_parts.specs.OldSpace.{reserved_homes, is_waiting}
 use Rattle.heap_parts.specs.Headers.{IsSettledHeader, IsHuskHeader, IsShadowHeader, IsYoungHeader, keeps_cards}

@@ -18,7 +18,7 @@ use Rattle.store_model.specs.Roots.{roots_of}
 use Rattle.store_model.specs.Marking.{visited_words, words_of_found, with_visited, IsMarked, MarkingStep, EndOfMarking}
 use Rattle.store_model.specs.MarkingOrder.{settled_of, VisitsQueued, Visits}
 use Rattle.object_model.specs.ObjectWords.{words_at}
-use Rattle.heap_parts.specs.Remembered.{Remembered, is_held_of}
+use Rattle.remember_cards.specs.Remembered.{Remembered, is_held_of}
 use Rattle.heap_parts.specs.Parts.{HeapParts, word_in}
 use Rattle.heap_parts.specs.Places.{AreAmong}
 use Rattle.heap_parts.specs.StandsFor.{PartsStandFor}

@@ -14,11 +14,11 @@ use Rattle.store_model.specs.Store.{Struct, Linked, Unlinked, Pending}
 use Rattle.object_model.specs.Sets.{is_in}
 use Rattle.store_model.specs.Structs.{Structs, object_of}
 use Rattle.store_model.specs.Links.{cut_links, entry_after, link_end, link_ends, newly_dead}
-use Rattle.heap_parts.specs.Remembered.{Held, held_places}
+use Rattle.remember_cards.specs.Remembered.{Held, held_places, without_dead}
 use Rattle.heap_parts.specs.Parts.{HeapParts}
 use Rattle.heap_parts.proofs.Members.{filter-agree}
 use Rattle.heap_parts.proofs.StructLaws.{first-value, behind-first}
-use Rattle.heap_phases.specs.EndOfMarking.{marked_parts, without_dead}
+use Rattle.heap_phases.specs.EndOfMarking.{marked_parts}
 
 -- a filter of what is listed by a place
 filter-by : {X : Type 0} (place : X → ℕ) (f g : ℕ → Bool) (xs : List X) → ((p : ℕ) → IsTrue (is_in p (map place xs)) → f p ≡ g p) → filter (λ x. f (place x)) xs ≡ filter (λ x. g (place x)) xs

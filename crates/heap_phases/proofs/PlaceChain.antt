@@ -11,7 +11,7 @@ use Rattle.object_model.specs.Sets.{is_in}
 use Rattle.store_model.specs.Roots.{referents_in}
 use Rattle.store_model.specs.Marking.{with_visited}
 use Rattle.store_model.specs.MarkingOrder.{IsInOrder, settled_of, Visits, NoVisit, Passed, Visit}
-use Rattle.heap_parts.specs.Remembered.{is_held_of}
+use Rattle.remember_cards.specs.Remembered.{is_held_of}
 use Rattle.heap_parts.specs.Parts.{HeapParts}
 use Rattle.heap_parts.specs.Places.{old_places, AreAmong}
 use Rattle.heap_parts.specs.Order.{IsGrayOf}

@@ -23,7 +23,7 @@ use Rattle.store_model.specs.Sound.{IsSound, IsPhaseSound}
 use Rattle.object_model.specs.ObjectWords.{updated, words_at}
 use Rattle.object_model.specs.Holds.{HoldsObjects}
 use Rattle.store_model.specs.MarkingOrder.{IsInOrder}
-use Rattle.heap_parts.specs.Remembered.{is_held_of}
+use Rattle.remember_cards.specs.Remembered.{is_held_of}
 use Rattle.heap_parts.specs.Parts.{HeapParts, word_in, home_in}
 use Rattle.heap_parts.specs.Places.{is_young, young_places, old_places, AreAmong}
 use Rattle.heap_parts.specs.OldSpace.{reserved_homes}

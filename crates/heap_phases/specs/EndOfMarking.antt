@@ -5,12 +5,8 @@ use Rattle.heap_space.specs.Memory.{Memory}
 use Rattle.old_space.specs.declared.Old.{Old}
 use Rattle.text_model.specs.declared.line.Phase.TheVariants.{Sweeping}
 use Rattle.store_model.specs.Links.{cut_links}
-use Rattle.heap_parts.specs.Remembered.{Remembered}
+use Rattle.remember_cards.specs.Remembered.{without_dead}
 use Rattle.heap_parts.specs.Parts.{HeapParts}
-
--- what is remembered, without the objects of places that pass
-abbrev pub without_dead : (ℕ → Bool) → Remembered → Remembered
-without_dead dead remembered = record remembered { held = filter (λ held. not (dead held.place)) remembered.held }
 
 -- the parts, where the tests tell which places hold condemned objects and which registered ones are chosen, and these are the husks
 abbrev pub marked_parts : HeapParts → Memory → Old → (ℕ → Bool) → (ℕ → Bool) → Table ℕ → HeapParts

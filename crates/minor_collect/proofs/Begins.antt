@@ -21,7 +21,7 @@ use Rattle.store_model.specs.Roots.{is_kept, pinned_births, roots_of, referents_
 use Rattle.object_model.specs.ObjectWords.{layout_at, object_from}
 use Rattle.store_model.specs.Reach.{refers, is_root}
 use Rattle.store_model.specs.MinorCollection.{is_unsettled, is_entry, refers_unsettled}
-use Rattle.heap_parts.specs.Remembered.{is_held_of}
+use Rattle.remember_cards.specs.Remembered.{is_held_of}
 use Rattle.heap_parts.specs.Parts.{HeapParts, word_in, pinned_places}
 use Rattle.heap_parts.specs.Places.{young_places, is_young, old_places, AreAmong, is_weak_at}
 use Rattle.heap_parts.specs.StandsFor.{PartsStandButYoung}

@@ -30,11 +30,12 @@ use Rattle.object_model.specs.Holds.{HoldsObjects}
 use Rattle.store_model.specs.Reach.{Tells}
 use Rattle.store_model.specs.MarkingOrder.{IsItem, YoungHeld}
 use Rattle.store_model.specs.MinorCollection.{Survives, vanishes, settles, after_minor}
-use Rattle.heap_parts.specs.Remembered.{Held, Remembered, is_held_of, is_held_whole, holds_item}
+use Rattle.remember_cards.specs.Remembered.{Held, Remembered, is_held_of, is_held_whole, holds_item}
 use Rattle.heap_parts.specs.Parts.{HeapParts, home_in, pinned_places}
 use Rattle.heap_parts.specs.Places.{is_young, young_places, old_places, OfFirsts, block_at}
 use Rattle.heap_parts.specs.OldSpace.{reserved_homes}
-use Rattle.heap_parts.specs.Headers.{is_marked, IsTracked, keeps_cards}
+use Rattle.heap_parts.specs.Headers.{is_marked, keeps_cards}
+use Rattle.remember_cards.specs.Tracking.{IsTracked}
 use Rattle.heap_parts.specs.Lists.{HoldsLinks, named_entries, named_queues}
 use Rattle.heap_parts.specs.StandsFor.{PartsStandFor, PartsStandButYoung, HoldsHeaders, HoldsYoungFlags, HoldsRemembered, HoldsSums}
 use Rattle.heap_parts.proofs.BirthNames.{entries-names, listed}

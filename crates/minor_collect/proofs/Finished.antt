@@ -27,7 +27,7 @@ use Rattle.text_model.specs.declared.line.Line.TheVariants.{MinorDone, Cleared, 
 use Rattle.store_model.specs.Links.{link_ends}
 use Rattle.store_model.specs.MinorCollection.{vanishes, MinorCollection}
 use Rattle.heap_parts.specs.Collects.{IsCollected}
-use Rattle.heap_parts.specs.Remembered.{is_held_of}
+use Rattle.remember_cards.specs.Remembered.{is_held_of}
 use Rattle.heap_parts.specs.Parts.{HeapParts, home_in, pinned_places}
 use Rattle.heap_parts.specs.Places.{is_young, young_places, old_places, block_at, is_weak_at}
 use Rattle.heap_parts.specs.OldSpace.{blocks_of, reserved_blocks, reserved_homes, AreUnitsSwept, HoldsHusks, husk_at}

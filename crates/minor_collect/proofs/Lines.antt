@@ -26,7 +26,7 @@ use Rattle.store_model.specs.Reach.{births_where}
 use Rattle.object_model.specs.ObjectWords.{renamed, info_at, layout_at, object_from, target_of}
 use Rattle.object_model.specs.Holds.{IsPointer}
 use Rattle.store_model.specs.MinorCollection.{vanishes, settles, target_passes, loss_lines, minor_lines}
-use Rattle.heap_parts.specs.Remembered.{is_held_of}
+use Rattle.remember_cards.specs.Remembered.{is_held_of}
 use Rattle.heap_parts.specs.Parts.{HeapParts, pinned_places}
 use Rattle.heap_parts.specs.Places.{is_young, old_places, is_weak_at, RiseBetween}
 use Rattle.heap_parts.specs.StandsFor.{PartsStandButYoung}

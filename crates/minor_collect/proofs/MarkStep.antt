@@ -22,11 +22,12 @@ use Rattle.store_model.specs.Store.{Store}
 use Rattle.object_model.specs.Sets.{is_in}
 use Rattle.object_model.specs.ObjectWords.{updated, layout_at}
 use Rattle.object_model.specs.Holds.{HoldsObjects, IsPointer}
-use Rattle.heap_parts.specs.Remembered.{Remembered, held_places, is_held_whole, has_held_cards}
+use Rattle.remember_cards.specs.Remembered.{Remembered, held_places, is_held_whole, has_held_cards}
 use Rattle.heap_parts.specs.Parts.{HeapParts, home_in, pinned_places}
 use Rattle.heap_parts.specs.Places.{is_young, young_places, old_places, AreWhole, AreAmong, OfFirsts}
 use Rattle.heap_parts.specs.OldSpace.{blocks_of, reserved_homes}
-use Rattle.heap_parts.specs.Headers.{IsSettledHeader, IsTracked, keeps_cards}
+use Rattle.heap_parts.specs.Headers.{IsSettledHeader, keeps_cards}
+use Rattle.remember_cards.specs.Tracking.{IsTracked}
 use Rattle.heap_parts.specs.StandsFor.{IsMadeWith, HoldsRemembered}
 use Rattle.heap_parts.proofs.PlaceLaws.{young-is_in, old-is_in}
 use Rattle.heap_parts.proofs.SameLayouts.{sum-same}

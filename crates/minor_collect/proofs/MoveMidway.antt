@@ -26,7 +26,7 @@ use Rattle.object_view.proofs.LayoutLaws.{laid_out, SameAt, KeepsLayout, keeps-s
 use Rattle.object_view.proofs.CopyLaws.{copy-like, copy-info}
 use Rattle.object_view.proofs.MoveLaws.{moved_to, moved_to-here, moved_to-other, moved-cases, moved-there}
 use Rattle.object_view.proofs.LeaveLaws.{room-moves, not-met}
-use Rattle.heap_parts.specs.Remembered.{Held, Remembered, held_places, is_held_whole, has_held_cards, has_any}
+use Rattle.remember_cards.specs.Remembered.{Held, Remembered, held_places, is_held_whole, has_held_cards, has_any}
 use Rattle.heap_parts.specs.Parts.{HeapParts, home_in, pinned_places}
 use Rattle.heap_parts.specs.Places.{is_young, young_places, old_places, AreAmong, AreWhole, OfFirsts, RiseBetween}
 use Rattle.heap_parts.specs.OldSpace.{blocks_of, reserved_homes, IsPlaceOf, husk_at}

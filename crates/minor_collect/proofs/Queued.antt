@@ -17,7 +17,7 @@ use Rattle.object_model.specs.ObjectWords.{renamed, layout_at, object_from}
 use Rattle.store_model.specs.Sound.{IsPhaseSound}
 use Rattle.store_model.specs.MarkingOrder.{IsItem, AreAllIn, is_known, YoungHeld}
 use Rattle.heap_parts.specs.Order.{IsGrayOf}
-use Rattle.heap_parts.specs.Remembered.{Held, is_held_of, holds_item}
+use Rattle.remember_cards.specs.Remembered.{Held, is_held_of, holds_item}
 use Rattle.heap_parts.specs.Parts.{HeapParts, word_in}
 use Rattle.heap_parts.specs.Places.{is_young, old_places, AreAmong}
 use Rattle.heap_parts.specs.StandsFor.{PartsStandButYoung}

@@ -17,7 +17,7 @@ use Rattle.store_model.specs.Links.{cut_links}
 use Rattle.object_model.specs.ObjectWords.{words_at, layout_at, info_at}
 use Rattle.object_model.specs.Holds.{IsPointer}
 use Rattle.store_model.specs.MinorCollection.{is_unsettled}
-use Rattle.heap_parts.specs.Remembered.{Held}
+use Rattle.remember_cards.specs.Remembered.{Held}
 use Rattle.heap_parts.specs.Parts.{HeapParts, pinned_places}
 use Rattle.heap_parts.specs.Places.{is_young, young_places, is_weak_at}
 use Rattle.heap_parts.proofs.PlaceLaws.{young-is_in, named-by}

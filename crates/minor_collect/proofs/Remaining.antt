@@ -15,7 +15,7 @@ use Rattle.object_model.specs.ObjectWords.{words_at}
 use Rattle.store_model.specs.MarkingOrder.{YoungHeld, VisitsQueued}
 use Rattle.store_model.specs.MinorCollection.{after_minor, minor_lines, MinorCollection}
 use Rattle.text_model.specs.declared.line.Line.{Line}
-use Rattle.heap_parts.specs.Remembered.{is_held_of}
+use Rattle.remember_cards.specs.Remembered.{is_held_of}
 use Rattle.heap_parts.specs.Parts.{HeapParts}
 use Rattle.heap_parts.specs.Places.{is_young, young_places, old_places, block_at}
 use Rattle.heap_parts.specs.OldSpace.{reserved_block, reserved_blocks, blocks_of}

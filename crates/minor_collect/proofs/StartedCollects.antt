@@ -11,7 +11,7 @@ use Rattle.object_model.specs.Sets.{is_in}
 use Rattle.store_model.specs.Store.{Store, empty_store}
 use Rattle.store_model.specs.MarkingOrder.{YoungHeld}
 use Rattle.store_model.specs.MinorCollection.{MinorCollection}
-use Rattle.heap_parts.specs.Remembered.{is_held_of}
+use Rattle.remember_cards.specs.Remembered.{is_held_of}
 use Rattle.heap_parts.specs.Parts.{HeapParts, started_parts}
 use Rattle.heap_parts.specs.StandsFor.{PartsStandFor, PartsStandButYoung}
 use Rattle.heap_parts.specs.Collects.{IsCollected}

@@ -11,7 +11,7 @@ use Rattle.std.specs.List.Sorted.{IsPermutation}
 use Rattle.object_model.specs.Object.{Object}
 use Rattle.object_model.specs.Shapes.{is_weak_shape}
 use Rattle.store_model.specs.Store.{Store}
-use Rattle.heap_parts.specs.Remembered.{held_places, is_held_of}
+use Rattle.remember_cards.specs.Remembered.{held_places, is_held_of}
 use Rattle.heap_parts.specs.Parts.{HeapParts, word_in}
 use Rattle.heap_parts.specs.Places.{is_young, young_places, old_places, AreAmong}
 use Rattle.heap_parts.specs.Lists.{HoldsList}

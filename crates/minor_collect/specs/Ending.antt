@@ -12,7 +12,7 @@ use Rattle.old_space.specs.HasBlocks.{HasBlocks}
 use Rattle.store_model.specs.Structs.{object_of}
 use Rattle.store_model.specs.Links.{cut_links}
 use Rattle.store_model.specs.MarkingOrder.{IsItem, AreAllIn, is_known}
-use Rattle.heap_parts.specs.Remembered.{is_held_whole}
+use Rattle.remember_cards.specs.Remembered.{is_held_whole}
 use Rattle.heap_parts.specs.Parts.{HeapParts, home_in, pinned_places}
 use Rattle.heap_parts.specs.Places.{young_places, old_places, AreAmong, AreWhole, block_at, is_weak_at}
 use Rattle.heap_parts.specs.OldSpace.{blocks_of, reserved_homes, HoldsHusks, AreUnitsSwept, is_waiting}

@@ -9,7 +9,7 @@ use Rattle.store_model.specs.Store.{Store}
 use Rattle.store_model.specs.Structs.{object_of}
 use Rattle.store_model.specs.Links.{cut_links}
 use Rattle.object_model.specs.ObjectWords.{words_at}
-use Rattle.heap_parts.specs.Remembered.{is_held_whole}
+use Rattle.remember_cards.specs.Remembered.{is_held_whole}
 use Rattle.heap_parts.specs.Parts.{HeapParts, home_in, pinned_places}
 use Rattle.heap_parts.specs.Places.{young_places, block_at}
 use Rattle.heap_parts.specs.StandsFor.{IsMadeWith}

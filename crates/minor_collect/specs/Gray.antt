@@ -3,7 +3,7 @@ use Rattle.std.specs.Prelude.{◌≡◌, ◌≢◌, ℕ, ◌+◌, ◌<◌, ◌�
 use Rattle.type_table.specs.declared.info.TypeInfo.{TypeInfo}
 use Rattle.type_table.specs.Table.{Table}
 use Rattle.object_model.specs.ObjectWords.{layout_at}
-use Rattle.heap_parts.specs.Remembered.{held_places}
+use Rattle.remember_cards.specs.Remembered.{held_places}
 use Rattle.heap_parts.specs.Parts.{HeapParts}
 use Rattle.heap_parts.specs.Places.{is_young, old_places, AreAmong}
 use Rattle.object_model.specs.Sets.{is_in}

@@ -19,7 +19,7 @@ use Rattle.std.specs.FinMap as map_of
 use Rattle.object_model.specs.ObjectWords.{words_at, layout_at}
 use Rattle.object_model.specs.Holds.{HoldsObjects}
 use Rattle.store_model.specs.MinorCollection.{is_unsettled, is_entry, refers_unsettled}
-use Rattle.heap_parts.specs.Remembered.{Remembered}
+use Rattle.remember_cards.specs.Remembered.{Remembered}
 use Rattle.heap_parts.specs.Parts.{HeapParts, home_in, pinned_places}
 use Rattle.heap_parts.specs.Places.{is_young, young_places, old_places, AreAmong, AreWhole, RiseBetween}
 use Rattle.heap_parts.specs.OldSpace.{blocks_of, HoldsHusks, AreUnitsSwept}

@@ -1,5 +1,5 @@
 -- What is remembered for the next minor collection: whole objects, and cards of arrays.
-use Rattle.std.specs.Prelude.{if◌then◌else◌, ℕ, ◌/◌, Bool, ◌==◌, ◌&&◌, ◌||◌, true, false, List, [], ◌∷◌, map}
+use Rattle.std.specs.Prelude.{◌≡◌, ◌≢◌, if◌then◌else◌, ℕ, ◌/◌, Bool, IsTrue, ◌⊎◌, ◌==◌, ◌&&◌, ◌||◌, not, true, false, List, [], ◌∷◌, map, filter}
 use Rattle.std.specs.List.{list_any}
 use Rattle.object_model.specs.Sets.{is_in}
 
@@ -58,3 +58,29 @@ hold_whole (held ∷ rest) place = if held.place == place then record held { is_
 
 abbrev pub with_whole : Remembered → ℕ → Remembered
 with_whole remembered place = record remembered { held = hold_whole remembered.held place }
+
+-- cards with one marked too, which comes first unless it was marked before
+abbrev pub with_card : List ℕ → ℕ → List ℕ
+with_card marked card = if is_in card marked then marked else card ∷ marked
+
+-- cards with several marked too, in this order
+abbrev pub with_cards : List ℕ → List ℕ → List ℕ
+with_cards marked [] = marked
+with_cards marked (card ∷ cards) = with_card (with_cards marked cards) card
+
+-- what is remembered, where these cards of the object at a place are remembered from now on
+abbrev pub hold_cards : List Held → ℕ → List ℕ → List Held
+hold_cards [] place cards = record { place = place; is_whole = false; cards = with_cards [] cards } ∷ []
+hold_cards (held ∷ rest) place cards = if held.place == place then record held { cards = with_cards held.cards cards } ∷ rest else held ∷ hold_cards rest place cards
+
+-- what is remembered, without the objects of places that pass
+abbrev pub without_dead : (ℕ → Bool) → Remembered → Remembered
+without_dead dead remembered = record remembered { held = filter (λ held. not (dead held.place)) remembered.held }
+
+-- more is remembered of the object at a place, and no less of others
+pub record RemembersMore (old new : Remembered) (p : ℕ) : Type 0 where
+  pub card : new.card ≡ old.card
+  pub there : (q : ℕ) → IsTrue (is_in q (held_places new)) → (q ≡ p) ⊎ IsTrue (is_in q (held_places old))
+  pub more : (name : ℕ → ℕ) (x i : ℕ) → IsTrue (is_held_of old name x i) → IsTrue (is_held_of new name x i)
+  pub whole_other : (q : ℕ) → q ≢ p → is_held_whole new q ≡ is_held_whole old q
+  pub cards_other : (q : ℕ) → q ≢ p → has_held_cards new q ≡ has_held_cards old q

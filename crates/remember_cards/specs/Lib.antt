@@ -1,0 +1,4 @@
+pub mod Remembered
+pub mod Tracking
+pub mod Drained
+pub mod Remembering
