@@ -1,0 +1,4 @@
+pub mod EntryLaws
+pub mod HeadLaws
+pub mod RememberLaws
+pub mod MarkLaws
