@@ -2,3 +2,5 @@ pub mod EntryLaws
 pub mod HeadLaws
 pub mod RememberLaws
 pub mod MarkLaws
+pub mod TableLaws
+pub mod OrderLaws
