@@ -1,5 +1,5 @@
 -- Entries where that of one object is changed, or a new one comes last.
-use Rattle.std.proofs.Common.{◌≡◌, ◌≢◌, ℕ, ◌⊎◌, Bool, true, false, IsTrue, List, [], ◌∷◌, ◌++◌, map, refl, sym, ap, ◌∙◌, subst, inl, inr}
+use Rattle.std.proofs.Common.{◌≡◌, ◌≢◌, ℕ, ◌⊎◌, Bool, true, false, IsTrue, List, [], ◌∷◌, ◌++◌, map, refl, sym, ap, ◌∙◌, subst, inl, inr, Result, Ok, Err, OnErr}
 use Rattle.std.specs.Prelude.{◌==◌, ◌&&◌, ◌||◌}
 use Rattle.std.specs.List.{list_any}
 use Rattle.std.proofs.lemmas.Bool.{eq-eqb, ne_eqb}
@@ -27,6 +27,11 @@ not-first false b e = refl
 pub not-second : (a b : Bool) → (a || b) ≡ false → b ≡ false
 not-second true b e = absurd (let no : ⊥ = cc in no)
 not-second false b e = e
+
+-- what holds is so where there is an error
+pub on_err : {T E P : Type 0} (r : Result T E) → P → OnErr r P
+on_err (Ok x) p = tt
+on_err (Err e) p = p
 
 -- the places of entries
 abbrev pub places_of : List Held → List ℕ

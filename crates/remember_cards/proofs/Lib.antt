@@ -4,3 +4,4 @@ pub mod RememberLaws
 pub mod MarkLaws
 pub mod TableLaws
 pub mod OrderLaws
+pub mod EntrySteps
