@@ -10,7 +10,7 @@ use Rattle.object_model.specs.Sets.{is_in}
 use Rattle.remember_cards.specs.declared.Span.{Span}
 use Rattle.remember_cards.specs.Remembered.{Held, held_whole, has_any, is_whole_among, has_cards_among, with_cards, hold_whole, hold_cards}
 use Rattle.remember_cards.specs.Drained.{span_of, span_of_taken, next_span, left_of}
-use Rattle.remember_cards.specs.Entries.{Marks, MarksAt, with_marks, held_at, entries_of, DoDiffer, AreListed, marked_whole, marks_or_none, marked_cards, taken_card, taken_of, left_marks}
+use Rattle.remember_cards.specs.Entries.{Marks, MarksAt, with_marks, held_at, entries_of, DoDiffer, AreListed, marked_whole, marks_or_none, marked_cards, taken_card, taken_of, is_more_left, left_marks}
 use Rattle.remember_cards.proofs.EntryLaws.{places_of, any_absent}
 use Rattle.remember_cards.proofs.RememberLaws.{cards_any}
 use Rattle.remember_cards.proofs.OrderLaws.{place_at, places_order, marks-here, marks-again, elsewhere, changed_one, added_one, not_there, none_of, listed_with, listed_push, listed_rest}
@@ -133,21 +133,18 @@ span_taken card p (Some marks) = by marks.is_whole marks.cards
     by false (c ∷ d ∷ cs) = refl
 
 -- A card of the first object was taken, and others are left: g are the marks then.
-module _ (f g : MarksAt) (order : List ℕ) (p c : ℕ) (l : AreListed f (p ∷ order)) (is : g ≡ with_marks f p (option_map left_marks (f p)))
-    (taken : option_and_then taken_card (f p) ≡ Some (c, false)) where
-  left-more : (m : Option Marks) → option_and_then taken_card m ≡ Some (c, false) → (hs : List Held)
+module _ (f g : MarksAt) (order : List ℕ) (p : ℕ) (l : AreListed f (p ∷ order)) (is : g ≡ with_marks f p (option_map left_marks (f p)))
+    (taken : is_more_left (option_and_then taken_card (f p)) ≡ true) where
+  left-more : (m : Option Marks) → is_more_left (option_and_then taken_card m) ≡ true → (hs : List Held)
       → (held_at p (option_map left_marks m) ∷ hs ≡ left_of (held_at p m ∷ hs)) × (has_any (held_at p (option_map left_marks m)).cards ≡ true)
   left-more None e hs = absurd (let no : ⊥ = cc in no)
   left-more (Some marks) e hs = by marks.is_whole marks.cards e
     where
-      is-last : Option (ℕ × Bool) → Bool
-      is-last None = false
-      is-last (Some taken) = taken.1
-      by : (w : Bool) (cs : List ℕ) → (if w then None else taken_of cs) ≡ Some (c, false) → let m : Marks = record { is_whole = w; cards = cs } in
+      by : (w : Bool) (cs : List ℕ) → is_more_left (if w then None else taken_of cs) ≡ true → let m : Marks = record { is_whole = w; cards = cs } in
           (held_at p (Some (left_marks m)) ∷ hs ≡ left_of (held_at p (Some m) ∷ hs)) × (has_any (held_at p (Some (left_marks m))).cards ≡ true)
       by true cs e = absurd (let no : ⊥ = cc in no)
       by false [] e = absurd (let no : ⊥ = cc in no)
-      by false (x ∷ []) e = absurd (let clash : true ≡ false = ap is-last e in let no : ⊥ = cc in no)
+      by false (x ∷ []) e = absurd (let no : ⊥ = cc in no)
       by false (x ∷ y ∷ cs) e = (refl, refl)
 
   pub more_left : entries_of g (p ∷ order) ≡ left_of (entries_of f (p ∷ order))
@@ -177,18 +174,18 @@ module _ (f g h : MarksAt) (order : List ℕ) (p : ℕ) (l : AreListed f (p ∷ 
   pub rest_listed : AreListed h order
   rest_listed = subst (λ (k : MarksAt). AreListed k order) (sym rest) (listed_rest f p order l)
 
-  last-left : (m : Option Marks) → ((c : ℕ) → option_and_then taken_card m ≢ Some (c, false)) → (hs : List Held) → hs ≡ left_of (held_at p m ∷ hs)
+  last-left : (m : Option Marks) → is_more_left (option_and_then taken_card m) ≡ false → (hs : List Held) → hs ≡ left_of (held_at p m ∷ hs)
   last-left None k hs = refl
   last-left (Some marks) k hs = by marks.is_whole marks.cards k
     where
-      by : (w : Bool) (cs : List ℕ) → ((c : ℕ) → (if w then None else taken_of cs) ≢ Some (c, false)) → let m : Marks = record { is_whole = w; cards = cs } in
+      by : (w : Bool) (cs : List ℕ) → is_more_left (if w then None else taken_of cs) ≡ false → let m : Marks = record { is_whole = w; cards = cs } in
           hs ≡ left_of (held_at p (Some m) ∷ hs)
       by true cs k = refl
       by false [] k = refl
       by false (x ∷ []) k = refl
-      by false (x ∷ y ∷ cs) k = absurd (k x refl)
+      by false (x ∷ y ∷ cs) k = absurd (let no : ⊥ = cc in no)
 
-  pub rest_left : ((c : ℕ) → option_and_then taken_card (f p) ≢ Some (c, false)) → entries_of h order ≡ left_of (entries_of f (p ∷ order))
+  pub rest_left : is_more_left (option_and_then taken_card (f p)) ≡ false → entries_of h order ≡ left_of (entries_of f (p ∷ order))
   rest_left other = ap (λ (k : MarksAt). entries_of k order) rest ∙ (elsewhere f p None order l.differ.0 ∙ last-left (f p) other (entries_of f order))
 
 -- what `mark` tells of the marks that were there

@@ -5,3 +5,4 @@ pub mod MarkLaws
 pub mod TableLaws
 pub mod OrderLaws
 pub mod EntrySteps
+pub mod FrontLaws

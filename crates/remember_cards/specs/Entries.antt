@@ -1,5 +1,5 @@
 -- What is remembered as two structures: the places in order, and marks of the arrays of which cards are remembered.
-use Rattle.std.specs.Prelude.{◌≡◌, ℕ, ◌==◌, ◌||◌, Bool, IsTrue, true, false, nat_eq, if◌then◌else◌, List, [], ◌∷◌, Option, Some, None, is_some, map}
+use Rattle.std.specs.Prelude.{◌≡◌, ℕ, ◌==◌, ◌||◌, Bool, IsTrue, true, false, nat_eq, if◌then◌else◌, List, [], ◌∷◌, Option, Some, None, is_some, map, not}
 use Rattle.std.specs.Map.{lookup}
 use Rattle.object_model.specs.Sets.{is_in}
 use Rattle.remember_cards.specs.Remembered.{Held, held_whole, has_any, with_cards}
@@ -77,6 +77,11 @@ taken_of (card ∷ next ∷ cards) = Some (card, false)
 
 abbrev pub taken_card : Marks → Option (ℕ × Bool)
 taken_card marks = if marks.is_whole then None else taken_of marks.cards
+
+-- whether a card was taken that was not the last one
+abbrev pub is_more_left : Option (ℕ × Bool) → Bool
+is_more_left None = false
+is_more_left (Some taken) = not taken.1
 
 -- and what is left
 abbrev pub without_first : List ℕ → List ℕ

@@ -4,7 +4,7 @@ ghost use Rattle.std.specs.Prelude.{◌≡◌, ◌+◌, ◌-◌, ◌≤◌, ◌<
 ghost use Rattle.std.specs.Ordering.{nat_cmp};
 ghost use Rattle.object_model.specs.Sets.{is_in};
 ghost use Rattle.remember_cards.specs.Remembered.{held_whole, hold_whole, hold_cards, is_whole_among, has_cards_among};
-ghost use Rattle.remember_cards.specs.Entries.{AreOrderly};
+ghost use Rattle.remember_cards.specs.Entries.{AreOrderly, is_more_left};
 ghost use Rattle.remember_cards.specs.Remembering.{cards_from};
 ghost use Rattle.remember_cards.specs.Drained.{next_span, left_of, span_of_taken};
 
@@ -100,7 +100,7 @@ impl Entries {
         let place = *self.order.front()?;
         let taken = self.arrays.take_card(place);
         let span = span_taken(place, card, taken);
-        if let Some((_, false)) = taken {
+        if is_more(taken) {
             return Some(span);
         }
         self.order.pop_front();
@@ -124,6 +124,16 @@ impl Entries {
     {
         self.order.retain(|place| !is_dead(dead, *place));
         self.arrays.forget(dead);
+    }
+}
+
+// Whether a card was taken that was not the last one.
+fn is_more(taken: Option<(u64, bool)>) -> bool
+    ensures { result ≡ is_more_left taken }
+{
+    match taken {
+        Some((_, is_last)) => !is_last,
+        None => false,
     }
 }
 
