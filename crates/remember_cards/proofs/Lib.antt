@@ -6,3 +6,5 @@ pub mod TableLaws
 pub mod OrderLaws
 pub mod EntrySteps
 pub mod FrontLaws
+pub mod SearchLaws
+pub mod DropLaws

@@ -126,7 +126,8 @@ out-append x p xs out ne = elim (cases_Bool (is_in x (xs ++ p ∷ []))) [
   | inr e ↦ e
 ]
 
-differ_push : (order : List ℕ) (p : ℕ) → DoDiffer order → is_in p order ≡ false → DoDiffer (order ++ p ∷ [])
+-- a new place behind those that differ
+pub differ_push : (order : List ℕ) (p : ℕ) → DoDiffer order → is_in p order ≡ false → DoDiffer (order ++ p ∷ [])
 differ_push [] p d out = (refl, tt)
 differ_push (x ∷ xs) p d out =
     (out-append x p xs d.0 (λ e. let head : (x == p) ≡ true = eq-eqb x p e in let first : (x == p) ≡ false = not-first (x == p) (is_in p xs) out in let no : ⊥ = cc in no),

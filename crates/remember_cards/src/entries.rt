@@ -122,7 +122,12 @@ impl Entries {
         requires { IsSorted nat_cmp dead.now }
         ensures { self.new ≡ filter (λ held. not (is_in held.place dead.now)) self.old }
     {
-        self.order.retain(|place| !is_dead(dead, *place));
+        self.order.retain(
+            |place: &u64| -> bool
+                requires { IsSorted nat_cmp dead.now }
+                ensures { result ≡ not (is_in place.now dead.entry.now) }
+            { !is_dead(dead, *place) },
+        );
         self.arrays.forget(dead);
     }
 }

@@ -75,8 +75,18 @@ impl Kept {
         requires { IsSorted nat_cmp dead.now }
         ensures { self.new ≡ filter (λ place. not (is_in place dead.now)) self.old }
     {
-        self.order.retain(|place| !is_dead(dead, *place));
-        self.places.retain(|place| !is_dead(dead, *place));
+        self.order.retain(
+            |place: &u64| -> bool
+                requires { IsSorted nat_cmp dead.now }
+                ensures { result ≡ not (is_in place.now dead.entry.now) }
+            { !is_dead(dead, *place) },
+        );
+        self.places.retain(
+            |place: &u64| -> bool
+                requires { IsSorted nat_cmp dead.now }
+                ensures { result ≡ not (is_in place.now dead.entry.now) }
+            { !is_dead(dead, *place) },
+        );
     }
 }
 

@@ -1,9 +1,6 @@
-use Rattle.std.proofs.Common.{rules, ◌≡◌, ◌∷◌, ◌++◌, [], not, filter, if◌then◌else◌, OnOk, OnErr, IsSorted, ℕ, ◌+◌, ◌-◌, ◌*◌, ◌<◌, ◌≤◌, length, ◌/◌, ◌%◌, Bool, true, false, nat_eq, nat_lt, List, slice_index_or, slice_set, bit_and, bit_or, Fits, w8, w32, w64, Bor, MutBor}
-use Rattle.std.specs.Ordering.{nat_cmp}
-use Rattle.object_model.specs.Sets.{is_in}
-use Rattle.remember_cards.specs.Entries.{DoDiffer}
+use Rattle.std.proofs.Common.{◌∙◌}
+use Rattle.remember_cards.proofs.SearchLaws.{found_among}
 use Rattle.remember_cards.proofs.kept.is_dead.Goals as goal
 
--- src/kept.rt:84:1
 pub returns : goal.returns
-returns c = ?
+returns c = c.is_ok.ensures.value ∙ found_among c.args.dead.now c.args.place c.binary_search.result c.requires c.binary_search.ensures.position

@@ -1,9 +1,9 @@
-use Rattle.std.proofs.Common.{rules, ◌≡◌, ◌∷◌, ◌++◌, [], not, filter, if◌then◌else◌, OnOk, OnErr, IsSorted, ℕ, ◌+◌, ◌-◌, ◌*◌, ◌<◌, ◌≤◌, length, ◌/◌, ◌%◌, Bool, true, false, nat_eq, nat_lt, List, slice_index_or, slice_set, bit_and, bit_or, Fits, w8, w32, w64, Bor, MutBor}
-use Rattle.std.specs.Ordering.{nat_cmp}
-use Rattle.object_model.specs.Sets.{is_in}
-use Rattle.remember_cards.specs.Entries.{DoDiffer}
+use Rattle.std.proofs.Common.{ℕ, List, ◌∷◌, [], ◌++◌, ap, ◌∙◌}
+use Rattle.remember_cards.proofs.SearchLaws.{kept_more, was-absent}
 use Rattle.remember_cards.proofs.kept.Kept.keep.Goals as goal
 
--- src/kept.rt:57:13
 pub invariant_of-self-then-branch : goal.invariant_of-self-then-branch
-invariant_of-self-then-branch c = ?
+invariant_of-self-then-branch c =
+    kept_more c.self.inside.places.keys c.self.inside.order.items c.insert.new.self.keys c.push_back_reserved.new.self.items c.args.place c.self.invariant
+        (was-absent c.in_ok-insert.ensures.added c.if-branch.true) c.in_ok-insert.ensures.keys
+        (c.push_back_reserved.ensures.items ∙ ap (λ (xs : List ℕ). xs ++ c.args.place ∷ []) c.reserve.ensures.items)
