@@ -8,3 +8,4 @@ pub mod EntrySteps
 pub mod FrontLaws
 pub mod SearchLaws
 pub mod DropLaws
+pub mod GivenLaws

@@ -39,10 +39,10 @@ elsewhere f p v (x ∷ xs) out =
     ap₂ (λ (h : Held) (hs : List Held). h ∷ hs) (ap (held_at x) (marks-other f p x v (not-first (x == p) (is_in p xs) out)))
         (elsewhere f p v xs (not-second (x == p) (is_in p xs) out))
 
-entry-head : (change : Held → Held) (new h : Held) (rest : List Held) (p : ℕ) → h.place ≡ p → with_entry change new (h ∷ rest) p ≡ change h ∷ rest
+pub entry-head : (change : Held → Held) (new h : Held) (rest : List Held) (p : ℕ) → h.place ≡ p → with_entry change new (h ∷ rest) p ≡ change h ∷ rest
 entry-head change new h rest p e = rw (eq-eqb h.place p e) refl
 
-entry-tail : (change : Held → Held) (new h : Held) (rest : List Held) (p : ℕ) → h.place ≢ p → with_entry change new (h ∷ rest) p ≡ h ∷ with_entry change new rest p
+pub entry-tail : (change : Held → Held) (new h : Held) (rest : List Held) (p : ℕ) → h.place ≢ p → with_entry change new (h ∷ rest) p ≡ h ∷ with_entry change new rest p
 entry-tail change new h rest p ne = rw (ne_eqb h.place p ne) refl
 
 -- marks at a place in the order change its entry
