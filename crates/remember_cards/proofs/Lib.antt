@@ -9,3 +9,5 @@ pub mod FrontLaws
 pub mod SearchLaws
 pub mod DropLaws
 pub mod GivenLaws
+pub mod CardLaws
+pub mod HandLaws

@@ -17,15 +17,15 @@ and-false : (b : Bool) → (b && false) ≡ false
 and-false true = refl
 and-false false = refl
 
-and-first : (a b : Bool) → IsTrue (a && b) → IsTrue a
+pub and-first : (a b : Bool) → IsTrue (a && b) → IsTrue a
 and-first true b t = refl
 and-first false b t = absurd (let no : ⊥ = cc in no)
 
-and-second : (a b : Bool) → IsTrue (a && b) → IsTrue b
+pub and-second : (a b : Bool) → IsTrue (a && b) → IsTrue b
 and-second true b t = t
 and-second false b t = absurd (let no : ⊥ = cc in no)
 
-and-both : (a b : Bool) → IsTrue a → IsTrue b → IsTrue (a && b)
+pub and-both : (a b : Bool) → IsTrue a → IsTrue b → IsTrue (a && b)
 and-both true b t u = u
 and-both false b t u = absurd (let no : ⊥ = cc in no)
 

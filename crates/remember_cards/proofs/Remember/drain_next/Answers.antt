@@ -1,15 +1,14 @@
-use Rattle.std.proofs.Common.{rules, ◌≡◌, ◌+◌, ◌<◌, ◌≤◌, ◌^◌, ℕ, nat_lt, IsTrue, IfOk, IfSome, IfNone, OnOk, OnErr, map, [], IsSorted, ◌-◌, ◌*◌, length, ◌/◌, ◌%◌, Bool, true, false, nat_eq, List, ◌∷◌, ◌++◌, slice_index_or, slice_set, bit_and, bit_or, Fits, w8, w32, w64, Bor, MutBor}
-use Rattle.std.specs.Ordering.{nat_cmp}
-use Rattle.heap_space.specs.Places.{has, word_at}
-use Rattle.object_header.specs.Words.{has_flag}
-use Rattle.object_header.specs.declared.flags.Flag.TheVariants.{HasCards}
-use Rattle.object_model.specs.Sets.{is_in}
-use Rattle.remember_cards.specs.Remembered.{RemembersMore, with_whole, without_dead, has_held_cards, is_held}
-use Rattle.remember_cards.specs.Tracking.{IsTracked, with_head, whole_head, items_head}
-use Rattle.remember_cards.specs.Remembering.{nothing_remembered, remembered_by, given_whole, given_items, kept_place, without_places}
-use Rattle.remember_cards.specs.Drained.{next_span, drained, spans_left, HandsOut}
+use Rattle.std.proofs.Common.{ℕ, List, IfSome, sym, ap, ◌∙◌, subst}
+use Rattle.remember_cards.specs.Remembered.{Held}
+use Rattle.remember_cards.specs.Remembering.{Remembering}
+use Rattle.remember_cards.specs.Drained.{HandsOut, left_of}
+use Rattle.remember_cards.proofs.HandLaws.{hands_out}
 use Rattle.remember_cards.proofs.Remember.drain_next.Goals as goal
 
--- src/lib.rt:168:5
 pub returns-else-is_none-clause-handed : goal.returns-else-is_none-clause-handed
-returns-else-is_none-clause-handed c = ?
+returns-else-is_none-clause-handed c =
+    let old : Remembering = record { card = c.self.inside.card; entries = c.self.inside.entries; kept = c.self.inside.kept } in
+    let with_entries : List Held → Remembering = λ hs. record { card = c.self.inside.card; entries = hs; kept = c.self.inside.kept } in
+    subst (λ (m : Remembering). IfSome c.take_span-span.result (λ span. HandsOut m (with_entries c.take_span-span.new.self) span)) c.self.view_is
+    (subst (λ (hs : List Held). IfSome c.take_span-span.result (λ span. HandsOut old (with_entries hs) span)) (sym c.take_span-span.ensures.left)
+    (hands_out old c.take_span-span.result c.self.invariant c.take_span-span.ensures.orderly c.take_span-span.ensures.next))
