@@ -125,9 +125,9 @@ no-part card h = record {
 
 below-limit : (x i : ℕ) → i < 18446744073709551615 → limited x ≤ i → x ≤ i
 below-limit x i b low = elim (cases_order x 18446744073709551615) [
-  | inl e ↦ let same : limited x ≡ x = min-eq_left {x} {18446744073709551615} (omega (arith, e)) in omega (arith, low, same)
-  | inr (inl l) ↦ let same : limited x ≡ x = min-eq_left {x} {18446744073709551615} (omega (arith, l)) in omega (arith, low, same)
-  | inr (inr g) ↦ let same : limited x ≡ 18446744073709551615 = min-eq_right {18446744073709551615} {x} (omega (arith, g)) in absurd (omega (arith, low, same, b))
+  | inl e ↦ let same : limited x ≡ x = min-eq_left {n = x} {m = 18446744073709551615} (omega (arith, e)) in omega (arith, low, same)
+  | inr (inl l) ↦ let same : limited x ≡ x = min-eq_left {n = x} {m = 18446744073709551615} (omega (arith, l)) in omega (arith, low, same)
+  | inr (inr g) ↦ let same : limited x ≡ 18446744073709551615 = min-eq_right {n = 18446744073709551615} {m = x} (omega (arith, g)) in absurd (omega (arith, low, same, b))
 ]
 
 -- the items of a card
@@ -137,15 +137,16 @@ in-card card c i some low high =
     let most = min-le_right (card * c + card) 18446744073709551615 in
     let from : card * c ≤ i = below-limit (card * c) i (omega (arith, high, most)) low in
     let turned : c * card ≡ card * c = mul_comm c card in
-    let next : (c + 1) * card ≡ card * c + card = mul_comm (c + 1) card ∙ refl in
-    div-eq_of_lt-le {c} card {i} (omega (arith, from, turned)) (omega (arith, high, least, next))
+    let next : (c + 1) * card ≡ c * card + card = omega arith in
+    div-eq_of_lt-le {k = c} card {m = i} (omega (arith, from, turned)) (omega (arith, high, least, next, turned))
 
 of-card : (card c i : ℕ) → 0 < card → i < 18446744073709551615 → i / card ≡ c → (limited (card * c) ≤ i) × (i < limited (card * c + card))
 of-card card c i some below e =
     let parts : card * c + i % card ≡ i = ap (λ (x : ℕ). card * x + i % card) (sym e) ∙ div-add-mod i card in
-    let less = mod-lt i {card} some in
+    let less = mod-lt i {m = card} some in
     let least = min-le_left (card * c) 18446744073709551615 in
-    (omega (arith, least, parts), le-min {i + 1} {card * c + card} {18446744073709551615} (omega (arith, parts, less)) (omega (arith, below)))
+    let room : i + 1 ≤ limited (card * c + card) = le-min {k = i + 1} {a = card * c + card} {b = 18446744073709551615} (omega (arith, parts, less)) (omega (arith, below)) in
+    (omega (arith, least, parts), omega (arith, room))
 
 -- what is handed out of the first entry
 module _ (card p : ℕ) (kept : List ℕ) (rest : List Held) (gone : is_in p (places_of rest) ≡ false) where
@@ -176,6 +177,9 @@ module _ (card p : ℕ) (kept : List ℕ) (rest : List Held) (gone : is_in p (pl
             | inr u ↦ inr (or-first (p == p && is_in (i / card) (d ∷ cs)) false (and-both (p == p) (is_in (i / card) (d ∷ cs)) (eq-eqb p p refl) u))
           ])
     where
+      alone : (b : Bool) → IsTrue (b || false) → IsTrue b
+      alone true t = refl
+      alone false t = t
       less : (c d : ℕ) (cs : List ℕ) → let h : Held = record { place = p; is_whole = false; cards = c ∷ d ∷ cs } in
           let left : Held = record { place = p; is_whole = false; cards = d ∷ cs } in Part card h (left ∷ [])
       less c d cs = record {
@@ -184,9 +188,6 @@ module _ (card p : ℕ) (kept : List ℕ) (rest : List Held) (gone : is_in p (pl
         whole = rw (eq-eqb p p refl) refl;
         places = λ q t. elim (is_in-cases q p [] t) [ inl e ↦ e | inr u ↦ absurd (let no : ⊥ = cc in no) ];
       }
-      alone : (b : Bool) → IsTrue (b || false) → IsTrue b
-      alone true t = refl
-      alone false t = t
 
   by-parts : (w : Bool) (cs : List ℕ) → 0 < card → (w || has_any cs) ≡ true → let h : Held = record { place = p; is_whole = w; cards = cs } in
       HandsOut (record { card = card; entries = h ∷ rest; kept = kept }) (record { card = card; entries = left_of (h ∷ rest); kept = kept }) (span_of card h)
