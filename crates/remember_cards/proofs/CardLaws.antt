@@ -1,6 +1,5 @@
 -- The cards that hold some items.
-use Rattle.std.proofs.Common.{◌≡◌, ℕ, zero, suc, ◌+◌, ◌-◌, ◌/◌, ◌<◌, ◌≤◌, true, false, IsTrue, List, [], ◌∷◌, refl, sym, ap, ◌∙◌, subst, inl, inr, arith}
-use Rattle.std.specs.Prelude.{◌==◌}
+use Rattle.std.proofs.Common.{◌≡◌, ℕ, zero, suc, ◌+◌, ◌-◌, ◌/◌, ◌<◌, ◌≤◌, IsTrue, refl, inl, inr, arith}
 use Rattle.std.proofs.lemmas.Bool.{cases_order}
 use Rattle.std.proofs.lemmas.Bool.Decides.{eqb_tells}
 use Rattle.std.proofs.Math.Nat.{div-mul-le_self}
@@ -17,7 +16,7 @@ among_cards first (suc count) c low high = elim (eqb_tells first c) [
 ]
   where
     above : (first ≡ c → ⊥) → first + 1 ≤ c
-    above ne = elim (cases_order first c) [ | inl e ↦ absurd (ne e) | inr (inl l) ↦ omega (arith, l) | inr (inr g) ↦ absurd (omega (arith, g, low)) ]
+    above ne = elim (cases_order first c) [ inl e ↦ absurd (ne e) | inr (inl l) ↦ omega (arith, l) | inr (inr g) ↦ absurd (omega (arith, g, low)) ]
 
 -- an item's card is among those of the items around it
 pub item_card : (card i n j : ℕ) → 0 < card → 0 < n → i ≤ j → j < i + n

@@ -1,17 +1,15 @@
 -- What the calls on entries do, as places in order with marks.
-use Rattle.std.proofs.Common.{◌≡◌, ◌≢◌, ℕ, ◌⊎◌, Bool, true, false, IsTrue, List, [], ◌∷◌, ◌++◌, map, Option, Some, None, is_some, refl, sym, ap, ap₂, ◌∙◌, subst, inl, inr}
-use Rattle.std.specs.Prelude.{◌==◌, ◌&&◌, ◌||◌, not, if◌then◌else◌}
-use Rattle.std.specs.List.{list_any}
+use Rattle.std.proofs.Common.{◌≡◌, ℕ, Bool, true, false, IsTrue, List, [], ◌∷◌, ◌++◌, Option, Some, None, is_some, refl, sym, ap, ap₂, ◌∙◌, subst, inl, inr}
+use Rattle.std.specs.Prelude.{◌==◌, ◌||◌, not, if◌then◌else◌}
 use Rattle.std.specs.Option.{option_map, option_and_then}
 use Rattle.std.proofs.lemmas.Bool.{eq-eqb, cases_Bool}
 use Rattle.std.proofs.lemmas.Bool.Decides.{eqb_tells}
 use Rattle.object_view.proofs.WordLaws.{is_in-head, is_in-cases, is_in-last}
 use Rattle.object_model.specs.Sets.{is_in}
-use Rattle.remember_cards.specs.declared.Span.{Span}
 use Rattle.remember_cards.specs.Remembered.{Held, held_whole, has_any, is_whole_among, has_cards_among, with_cards, hold_whole, hold_cards}
-use Rattle.remember_cards.specs.Drained.{span_of, span_of_taken, next_span, left_of}
+use Rattle.remember_cards.specs.Drained.{span_of, span_of_taken, left_of}
 use Rattle.remember_cards.specs.Entries.{Marks, MarksAt, with_marks, held_at, entries_of, DoDiffer, AreListed, marked_whole, marks_or_none, marked_cards, taken_card, taken_of, is_more_left, left_marks}
-use Rattle.remember_cards.proofs.EntryLaws.{places_of, any_absent}
+use Rattle.remember_cards.proofs.EntryLaws.{any_absent}
 use Rattle.remember_cards.proofs.RememberLaws.{cards_any}
 use Rattle.remember_cards.proofs.OrderLaws.{place_at, places_order, marks-here, marks-again, elsewhere, changed_one, added_one, not_there, none_of, listed_with, listed_push, listed_rest}
 
@@ -33,6 +31,7 @@ module _ (f g : MarksAt) (order : List ℕ) (p : ℕ) (l : AreListed f order) (i
       before : (m : Option Marks) → IsTrue (is_some (marked_whole m)) → IsTrue (is_some m)
       before None t = t
       before (Some marks) t = refl
+
       cards : (m : Option Marks) → IsTrue (is_some (marked_whole m)) → (IsTrue (is_some m) → has_any (held_at p m).cards ≡ true) → has_any (held_at p (marked_whole m)).cards ≡ true
       cards None t k = k t
       cards (Some marks) t k = k refl
@@ -57,7 +56,7 @@ module _ (f g : MarksAt) (order : List ℕ) (p card : ℕ) (cards : List ℕ) (l
   cards_marked some =
       ap (λ (h : MarksAt). entries_of h order) is
       ∙ changed_one (λ h. record h { cards = with_cards h.cards (card ∷ cards) }) (record { place = p; is_whole = false; cards = with_cards [] (card ∷ cards) })
-          f p (Some (marked_cards (marks_or_none (f p)) (card ∷ cards))) order l.differ (l.listed p some) (by (f p) some)
+      f p (Some (marked_cards (marks_or_none (f p)) (card ∷ cards))) order l.differ (l.listed p some) (by (f p) some)
     where
       by : (m : Option Marks) → is_some m ≡ true
           → (let held : Held = record (held_at p m) { cards = with_cards (held_at p m).cards (card ∷ cards) } in held) ≡ held_at p (Some (marked_cards (marks_or_none m) (card ∷ cards)))
@@ -72,8 +71,8 @@ module _ (f g : MarksAt) (order : List ℕ) (p card : ℕ) (cards : List ℕ) (l
   cards_added none out = let no_marks = none_of (f p) none in
       ap (λ (h : MarksAt). entries_of h (order ++ p ∷ [])) is
       ∙ added_one (λ h. record h { cards = with_cards h.cards (card ∷ cards) }) (record { place = p; is_whole = false; cards = with_cards [] (card ∷ cards) })
-          f p (Some (marked_cards (marks_or_none (f p)) (card ∷ cards))) order (not_there f p order no_marks out)
-          (ap (λ (m : Option Marks). held_at p (Some (marked_cards (marks_or_none m) (card ∷ cards)))) no_marks)
+      f p (Some (marked_cards (marks_or_none (f p)) (card ∷ cards))) order (not_there f p order no_marks out)
+      (ap (λ (m : Option Marks). held_at p (Some (marked_cards (marks_or_none m) (card ∷ cards)))) no_marks)
 
   pub cards_added_listed : is_some (f p) ≡ false → is_whole_among (entries_of f order) p ≡ false → AreListed g (order ++ p ∷ [])
   cards_added_listed none out = let no_marks = none_of (f p) none in
@@ -96,23 +95,28 @@ cards_among f p order l = elim (cases_Bool (is_in p order)) [
     same : (m : Option Marks) → (held_at p m).cards ≡ (marks_or_none m).cards
     same None = refl
     same (Some marks) = refl
+
     none : (m : Option Marks) → (IsTrue (is_some m) → ⊥) → has_any (marks_or_none m).cards ≡ false
     none None k = refl
     none (Some marks) k = absurd (k refl)
+
     or-false : (b : Bool) → (b || false) ≡ b
     or-false true = refl
     or-false false = refl
+
     head : (h : Held) (hs : List Held) → h.place ≡ p → has_cards_among hs p ≡ false → has_cards_among (h ∷ hs) p ≡ has_any h.cards
     head h hs e out = rw (eq-eqb h.place p e, out) (or-false (has_any h.cards))
+
     tail : (h : Held) (hs : List Held) → (h.place == p) ≡ false → has_cards_among (h ∷ hs) p ≡ has_cards_among hs p
     tail h hs e = rw e refl
+
     there : (order : List ℕ) → DoDiffer order → IsTrue (is_in p order) → has_cards_among (entries_of f order) p ≡ has_any (held_at p (f p)).cards
     there [] d t = absurd (let no : ⊥ = cc in no)
     there (x ∷ xs) d t = elim (eqb_tells x p) [
       | inl e ↦
           let out : is_in p xs ≡ false = (let F : ℕ → Type 0 = λ y. is_in y xs ≡ false in subst F e.1 d.0) in
           head (held_at x (f x)) (entries_of f xs) (place_at x (f x) ∙ e.1)
-              (any_absent (λ held. has_any held.cards) (entries_of f xs) p (ap (is_in p) (places_order f xs) ∙ out))
+          (any_absent (λ held. has_any held.cards) (entries_of f xs) p (ap (is_in p) (places_order f xs) ∙ out))
           ∙ ap (λ (y : ℕ). has_any (held_at y (f y)).cards) e.1
       | inr e ↦ elim (is_in-cases p x xs t) [
         | inl is ↦ absurd (e.1 (sym is))
@@ -151,7 +155,7 @@ module _ (f g : MarksAt) (order : List ℕ) (p : ℕ) (l : AreListed f (p ∷ or
   more_left =
       ap (λ (h : MarksAt). entries_of h (p ∷ order)) is
       ∙ (ap₂ (λ (h : Held) (hs : List Held). h ∷ hs) (ap (held_at p) (marks-here f p p (option_map left_marks (f p)) (eq-eqb p p refl)))
-          (elsewhere f p (option_map left_marks (f p)) order l.differ.0)
+      (elsewhere f p (option_map left_marks (f p)) order l.differ.0)
       ∙ (left-more (f p) taken (entries_of f order)).0)
 
   pub more_listed : AreListed g (p ∷ order)

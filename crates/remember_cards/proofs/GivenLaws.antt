@@ -1,11 +1,9 @@
 -- What the barriers do to all that is remembered, where some objects are kept for the next collection.
-use Rattle.std.proofs.Common.{◌≡◌, ◌≢◌, ℕ, Bool, true, false, IsTrue, List, [], ◌∷◌, ◌++◌, map, refl, sym, ap, ap₂, ◌∙◌, subst, inl, inr}
+use Rattle.std.proofs.Common.{◌≡◌, ℕ, Bool, true, false, IsTrue, List, [], ◌∷◌, ◌++◌, map, refl, sym, ap, ◌∙◌, subst, inl, inr}
 use Rattle.std.specs.Prelude.{◌==◌, ◌&&◌, ◌||◌, ◌/◌, not}
-use Rattle.std.specs.List.{list_any}
-use Rattle.std.proofs.lemmas.Bool.{eq-eqb, ne_eqb, cases_Bool}
 use Rattle.std.proofs.lemmas.Bool.Decides.{eqb_tells}
 use Rattle.std.proofs.lemmas.List.Folds.{list_any-append}
-use Rattle.object_header.specs.Words.{has_flag, with_flag, without_flag}
+use Rattle.object_header.specs.Words.{with_flag, without_flag}
 use Rattle.object_header.specs.declared.flags.Flag.TheVariants.{Track, CardsSet}
 use Rattle.object_model.specs.Sets.{is_in}
 use Rattle.remember_cards.specs.Remembered.{Held, Remembered, RemembersMore, held_whole, is_whole_among, is_held_whole, is_held, with_cards, with_entry, hold_whole, hold_cards, with_whole}
@@ -14,7 +12,7 @@ use Rattle.remember_cards.specs.Remembering.{Remembering, remembered_by}
 use Rattle.remember_cards.specs.Entries.{AreOrderly}
 use Rattle.remember_cards.proofs.EntryLaws.{places_of, any_absent, not-first, not-second, entry_behind}
 use Rattle.remember_cards.proofs.OrderLaws.{entry-head, entry-tail}
-use Rattle.remember_cards.proofs.RememberLaws.{Holds, more_held, holds_whole, holds_cards, whole_tracked, cards_tracked, covers_whole, covers_cards}
+use Rattle.remember_cards.proofs.RememberLaws.{more_held, holds_whole, holds_cards, whole_tracked, cards_tracked, covers_whole, covers_cards}
 
 -- the kept objects, as entries
 abbrev pub kept_entries : Remembering → List Held
@@ -103,6 +101,7 @@ entry-again (h ∷ hs) p o whole = elim (eqb_tells h.place p) [
     alone true true rest e f t = refl
     alone true false rest e f t = absurd (let no : ⊥ = cc in no)
     alone false w rest e f t = absurd (let no : ⊥ = cc in no)
+
     later : (at w rest : Bool) → at ≡ false → ((at && w) || rest) ≡ true → rest ≡ true
     later true w rest e t = absurd (let no : ⊥ = cc in no)
     later false w rest e t = t

@@ -1,17 +1,16 @@
 -- What the handing out of a span is to all that is remembered.
-use Rattle.std.proofs.Common.{◌≡◌, ◌≢◌, ℕ, ◌+◌, ◌*◌, ◌/◌, ◌%◌, ◌<◌, ◌≤◌, ◌⊎◌, Bool, true, false, IsTrue, List, [], ◌∷◌, ◌++◌, map, Option, Some, None, IfSome, refl, sym, ap, ap₂, ◌∙◌, subst, inl, inr, arith}
-use Rattle.std.specs.Prelude.{◌==◌, ◌&&◌, ◌||◌, min}
+use Rattle.std.proofs.Common.{◌≡◌, ◌≢◌, ℕ, ◌+◌, ◌*◌, ◌/◌, ◌%◌, ◌<◌, ◌≤◌, ◌⊎◌, Bool, true, false, IsTrue, List, [], ◌∷◌, ◌++◌, map, Option, IfSome, refl, sym, ap, ap₂, ◌∙◌, subst, inl, inr, arith}
+use Rattle.std.specs.Prelude.{◌==◌, ◌&&◌, ◌||◌}
 use Rattle.std.specs.List.{list_any}
 use Rattle.std.proofs.lemmas.Bool.{eq-eqb, ne_eqb, cases_order}
 use Rattle.std.proofs.Math.Nat.{min-le_left, min-le_right, min-eq_left, min-eq_right, le-min, mul_comm, div-eq_of_lt-le, div-add-mod, mod-lt}
-use Rattle.std.proofs.lemmas.Bool.Decides.{eqb_tells}
 use Rattle.std.proofs.lemmas.List.{map-append}
 use Rattle.std.proofs.lemmas.List.Folds.{list_any-append}
 use Rattle.object_view.proofs.WordLaws.{is_in-head, is_in-tail, is_in-cases}
 use Rattle.object_model.specs.Sets.{is_in}
 use Rattle.remember_cards.specs.declared.Span.{Span}
-use Rattle.remember_cards.specs.Remembered.{Held, held_whole, is_whole_among, is_held, is_held_whole, holds_item, has_any, held_places}
-use Rattle.remember_cards.specs.Remembering.{Remembering, remembered_by}
+use Rattle.remember_cards.specs.Remembered.{Held, held_whole, is_whole_among, holds_item, has_any}
+use Rattle.remember_cards.specs.Remembering.{Remembering}
 use Rattle.remember_cards.specs.Entries.{AreOrderly}
 use Rattle.remember_cards.specs.Drained.{HandsOut, span_of, next_span, left_of, limited, whole_span, card_span}
 use Rattle.remember_cards.proofs.EntryLaws.{places_of, any_absent, or-either, or-first, or-second}
@@ -44,7 +43,7 @@ kept-whole (k ∷ kept) p = ap₂ (λ (a b : Bool). a || b) (and-true (k == p)) 
 module _ (card : ℕ) (kept : List ℕ) (h : Held) (rest xs : List Held) (low high : ℕ) (gone : is_in h.place (places_of rest) ≡ false) (part : Part card h xs)
     (items : (i : ℕ) → low ≤ i → i < high → IsTrue (holds_item card h i))
     (split : (i : ℕ) → i < 18446744073709551615 → IsTrue (holds_item card h i)
-        → ((low ≤ i) × (i < high)) ⊎ IsTrue (list_any (λ e. e.place == h.place && holds_item card e i) xs)) where
+    → ((low ≤ i) × (i < high)) ⊎ IsTrue (list_any (λ e. e.place == h.place && holds_item card e i) xs)) where
   abbrev all-kept : List Held
   all-kept = map held_whole kept
 
@@ -70,7 +69,7 @@ module _ (card : ℕ) (kept : List ℕ) (h : Held) (rest xs : List Held) (low hi
     there = places-old h.place (inr (is_in-head h.place (places_of rest)));
     handed = λ i l r. any-right (λ e. e.place == h.place && holds_item card e i) all-kept (h ∷ rest)
         (or-first (h.place == h.place && holds_item card h i) (list_any (λ e. e.place == h.place && holds_item card e i) rest)
-            (and-both (h.place == h.place) (holds_item card h i) (eq-eqb h.place h.place refl) (items i l r)));
+        (and-both (h.place == h.place) (holds_item card h i) (eq-eqb h.place h.place refl) (items i l r)));
     covered = λ i b t. let f : Held → Bool = λ e. e.place == h.place && holds_item card e i in
         elim (any-either f all-kept (h ∷ rest) t) [
           | inl k ↦ inr (any-left f all-kept (xs ++ rest) k)
@@ -159,8 +158,8 @@ module _ (card p : ℕ) (kept : List ℕ) (rest : List Held) (gone : is_in p (pl
       HandsOut (record { card = card; entries = h ∷ rest; kept = kept }) (record { card = card; entries = rest; kept = kept }) (card_span card p c)
   last-case c some = let h : Held = record { place = p; is_whole = false; cards = c ∷ [] } in
       hands card kept h rest [] (limited (card * c)) (limited (card * c + card)) gone (no-part card h)
-          (λ i l r. in-here c (i / card) [] (in-card card c i some l r))
-          (λ i b t. inl (of-card card c i some b (only c (i / card) t)))
+      (λ i l r. in-here c (i / card) [] (in-card card c i some l r))
+      (λ i b t. inl (of-card card c i some b (only c (i / card) t)))
     where
       only : (c x : ℕ) → IsTrue (is_in x (c ∷ [])) → x ≡ c
       only c x t = elim (is_in-cases x c [] t) [ inl e ↦ e | inr u ↦ absurd (let no : ⊥ = cc in no) ]
@@ -171,15 +170,16 @@ module _ (card p : ℕ) (kept : List ℕ) (rest : List Held) (gone : is_in p (pl
   more-case c d cs some =
       let h : Held = record { place = p; is_whole = false; cards = c ∷ d ∷ cs } in let left : Held = record { place = p; is_whole = false; cards = d ∷ cs } in
       hands card kept h rest (left ∷ []) (limited (card * c)) (limited (card * c + card)) gone (less c d cs)
-          (λ i l r. in-here c (i / card) (d ∷ cs) (in-card card c i some l r))
-          (λ i b t. elim (is_in-cases (i / card) c (d ∷ cs) t) [
-            | inl e ↦ inl (of-card card c i some b e)
-            | inr u ↦ inr (or-first (p == p && is_in (i / card) (d ∷ cs)) false (and-both (p == p) (is_in (i / card) (d ∷ cs)) (eq-eqb p p refl) u))
-          ])
+      (λ i l r. in-here c (i / card) (d ∷ cs) (in-card card c i some l r))
+      (λ i b t. elim (is_in-cases (i / card) c (d ∷ cs) t) [
+        | inl e ↦ inl (of-card card c i some b e)
+        | inr u ↦ inr (or-first (p == p && is_in (i / card) (d ∷ cs)) false (and-both (p == p) (is_in (i / card) (d ∷ cs)) (eq-eqb p p refl) u))
+      ])
     where
       alone : (b : Bool) → IsTrue (b || false) → IsTrue b
       alone true t = refl
       alone false t = t
+
       less : (c d : ℕ) (cs : List ℕ) → let h : Held = record { place = p; is_whole = false; cards = c ∷ d ∷ cs } in
           let left : Held = record { place = p; is_whole = false; cards = d ∷ cs } in Part card h (left ∷ [])
       less c d cs = record {

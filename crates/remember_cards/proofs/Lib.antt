@@ -11,3 +11,4 @@ pub mod DropLaws
 pub mod GivenLaws
 pub mod CardLaws
 pub mod HandLaws
+pub mod KeptLaws

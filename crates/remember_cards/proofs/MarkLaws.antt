@@ -66,4 +66,4 @@ pub marked_all : (whole : Bool) (keys : List ℕ) (before : Marks) (card first l
 marked_all whole keys before card first last at order same have =
     let count : last + 1 - card ≡ suc (last - first) = omega (arith, at, order) in
     ap₂ seen same
-        (have ∙ ap₂ (λ (x n : ℕ). with_cards before.cards (cards_from x n)) at count)
+    (have ∙ ap₂ (λ (x n : ℕ). with_cards before.cards (cards_from x n)) at count)

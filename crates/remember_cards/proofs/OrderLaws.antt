@@ -1,11 +1,10 @@
 -- Entries as places in order with marks: what a change of marks and of the order is to them.
-use Rattle.std.proofs.Common.{◌≡◌, ◌≢◌, ℕ, ◌⊎◌, Bool, true, false, IsTrue, List, [], ◌∷◌, ◌++◌, map, Option, Some, None, is_some, refl, sym, ap, ap₂, ◌∙◌, subst, inl, inr}
-use Rattle.std.specs.Prelude.{◌==◌, ◌&&◌, ◌||◌, if◌then◌else◌, filter}
-use Rattle.std.specs.List.{list_any}
+use Rattle.std.proofs.Common.{◌≡◌, ◌≢◌, ℕ, Bool, true, false, IsTrue, List, [], ◌∷◌, ◌++◌, Option, Some, None, is_some, refl, sym, ap, ap₂, ◌∙◌, subst, inl, inr}
+use Rattle.std.specs.Prelude.{◌==◌, ◌&&◌, ◌||◌}
 use Rattle.std.proofs.lemmas.Bool.{eq-eqb, ne_eqb, cases_Bool}
 use Rattle.std.proofs.lemmas.Bool.Decides.{eqb_tells}
 use Rattle.std.proofs.lemmas.List.{map-append}
-use Rattle.object_view.proofs.WordLaws.{is_in-head, is_in-tail, is_in-cases, is_in-before, is_in-append}
+use Rattle.object_view.proofs.WordLaws.{is_in-cases, is_in-before, is_in-append}
 use Rattle.object_model.specs.Sets.{is_in}
 use Rattle.remember_cards.specs.Remembered.{Held, held_whole, has_any, is_whole_among, with_entry}
 use Rattle.remember_cards.specs.Entries.{Marks, MarksAt, with_marks, held_at, entries_of, DoDiffer, AreOrderly, AreListed}
@@ -30,14 +29,14 @@ pub marks-again : (f : MarksAt) (p : ℕ) → with_marks f p (f p) ≡ f
 marks-again f p = λ i q. (at q) i
   where
     at : (q : ℕ) → with_marks f p (f p) q ≡ f q
-    at q = elim (eqb_tells q p) [ | inl e ↦ marks-here f p q (f p) e.0 ∙ ap f (sym e.1) | inr e ↦ marks-other f p q (f p) e.0 ]
+    at q = elim (eqb_tells q p) [ inl e ↦ marks-here f p q (f p) e.0 ∙ ap f (sym e.1) | inr e ↦ marks-other f p q (f p) e.0 ]
 
 -- marks at a place that is not in the order
 pub elsewhere : (f : MarksAt) (p : ℕ) (v : Option Marks) (order : List ℕ) → is_in p order ≡ false → entries_of (with_marks f p v) order ≡ entries_of f order
 elsewhere f p v [] out = refl
 elsewhere f p v (x ∷ xs) out =
     ap₂ (λ (h : Held) (hs : List Held). h ∷ hs) (ap (held_at x) (marks-other f p x v (not-first (x == p) (is_in p xs) out)))
-        (elsewhere f p v xs (not-second (x == p) (is_in p xs) out))
+    (elsewhere f p v xs (not-second (x == p) (is_in p xs) out))
 
 pub entry-head : (change : Held → Held) (new h : Held) (rest : List Held) (p : ℕ) → h.place ≡ p → with_entry change new (h ∷ rest) p ≡ change h ∷ rest
 entry-head change new h rest p e = rw (eq-eqb h.place p e) refl
@@ -85,9 +84,11 @@ whole-there f p (x ∷ xs) none t = elim (is_in-cases p x xs t) [
   where
     head : (hs : List Held) → is_whole_among (held_whole p ∷ hs) p ≡ true
     head hs = rw (eq-eqb p p refl) refl
+
     or-true : (a b : Bool) → b ≡ true → (a || b) ≡ true
     or-true true b e = refl
     or-true false b e = e
+
     either : is_whole_among (entries_of f xs) p ≡ true → is_whole_among (entries_of f (x ∷ xs)) p ≡ true
     either e = or-true ((held_at x (f x)).place == p && (held_at x (f x)).is_whole) (is_whole_among (entries_of f xs) p) e
 
@@ -129,9 +130,10 @@ out-append x p xs out ne = elim (cases_Bool (is_in x (xs ++ p ∷ []))) [
 -- a new place behind those that differ
 pub differ_push : (order : List ℕ) (p : ℕ) → DoDiffer order → is_in p order ≡ false → DoDiffer (order ++ p ∷ [])
 differ_push [] p d out = (refl, tt)
-differ_push (x ∷ xs) p d out =
-    (out-append x p xs d.0 (λ e. let head : (x == p) ≡ true = eq-eqb x p e in let first : (x == p) ≡ false = not-first (x == p) (is_in p xs) out in let no : ⊥ = cc in no),
-    differ_push xs p d.1 (not-second (x == p) (is_in p xs) out))
+differ_push (x ∷ xs) p d out = (
+  out-append x p xs d.0 (λ e. let head : (x == p) ≡ true = eq-eqb x p e in let first : (x == p) ≡ false = not-first (x == p) (is_in p xs) out in let no : ⊥ = cc in no),
+  differ_push xs p d.1 (not-second (x == p) (is_in p xs) out),
+)
 
 -- one place more
 pub listed_push : (f : MarksAt) (p : ℕ) (order : List ℕ) → AreListed f order → is_in p order ≡ false → AreListed f (order ++ p ∷ [])
@@ -169,6 +171,7 @@ orderly f (x ∷ xs) d some =
     or-true : (a b : Bool) → b ≡ true → (a || b) ≡ true
     or-true true b e = refl
     or-true false b e = e
+
     by : (m : Option Marks) → (IsTrue (is_some m) → has_any (held_at x m).cards ≡ true) → ((held_at x m).is_whole || has_any (held_at x m).cards) ≡ true
     by None s = refl
     by (Some marks) s = or-true marks.is_whole (has_any marks.cards) (s refl)

@@ -1,17 +1,16 @@
 -- More is remembered of an object, whole or by cards: what that is to all that is remembered, and to the object's flags.
-use Rattle.std.proofs.Common.{◌≡◌, ◌≢◌, ℕ, ◌/◌, ◌⊎◌, Bool, true, false, IsTrue, List, [], ◌∷◌, ◌++◌, map, refl, sym, ap, ◌∙◌, subst, inl, inr}
-use Rattle.std.specs.Prelude.{◌==◌, ◌&&◌, ◌||◌, not, if◌then◌else◌}
+use Rattle.std.proofs.Common.{◌≡◌, ◌≢◌, ℕ, ◌/◌, Bool, true, false, IsTrue, List, [], ◌∷◌, refl, sym, ap, ◌∙◌, subst, inl, inr}
+use Rattle.std.specs.Prelude.{◌==◌, ◌&&◌, ◌||◌, not}
 use Rattle.std.specs.List.{list_any}
 use Rattle.std.proofs.lemmas.Bool.{eq-eqb, ne_eqb, cases_Bool}
 use Rattle.std.proofs.lemmas.Bool.Decides.{eqb_tells}
-use Rattle.std.proofs.lemmas.List.Folds.{list_any-append}
-use Rattle.object_header.specs.Words.{has_flag, with_flag, without_flag}
+use Rattle.object_header.specs.Words.{with_flag, without_flag}
 use Rattle.object_header.specs.declared.flags.Flag.TheVariants.{Track, CardsSet}
 use Rattle.object_header.proofs.WordLaws.{has_flag-with_flag_same, has_flag-with_flag_other, has_flag-without_flag_same, has_flag-without_flag_other}
 use Rattle.object_model.specs.Sets.{is_in}
-use Rattle.remember_cards.specs.Remembered.{Held, Remembered, RemembersMore, held_whole, held_places, is_whole_among, has_cards_among, is_held_whole, has_held_cards, is_held, is_held_of, holds_item, has_any, with_card, with_cards, with_entry, hold_whole, hold_cards, with_whole}
+use Rattle.remember_cards.specs.Remembered.{Held, Remembered, RemembersMore, held_whole, is_whole_among, is_held_whole, has_held_cards, is_held, holds_item, has_any, with_card, with_cards, with_entry, hold_cards, with_whole}
 use Rattle.remember_cards.specs.Tracking.{IsTracked}
-use Rattle.remember_cards.proofs.EntryLaws.{any_same, any_more, any_here, any_absent, places_more, places_of, not-first, not-second, or-first}
+use Rattle.remember_cards.proofs.EntryLaws.{any_same, any_more, any_here, places_more, or-first}
 
 and-false : (b : Bool) → (b && false) ≡ false
 and-false true = refl
@@ -32,7 +31,7 @@ and-both false b t u = absurd (let no : ⊥ = cc in no)
 one-more : (marked : List ℕ) (card c : ℕ) → IsTrue (is_in c marked) → IsTrue (is_in c (with_card marked card))
 one-more marked card c t = elim (cases_Bool (is_in card marked)) [
   | inl is ↦ rw is t
-  | inr isnt ↦ rw isnt (elim (cases_Bool (card == c)) [ | inl same ↦ rw same refl | inr other ↦ rw other t ])
+  | inr isnt ↦ rw isnt (elim (cases_Bool (card == c)) [ inl same ↦ rw same refl | inr other ↦ rw other t ])
 ]
 
 -- a mark that is added leaves those that were there
@@ -82,8 +81,8 @@ more_held r p change new k = record {
   there = λ q t. places_more change new p k.place k.new_place r.held q t;
   more = λ name x i t. any_more change new p (λ h. name h.place == x && holds_item r.card h i) r.held
       (λ h e u. and-both (name (change h).place == x) (holds_item r.card (change h) i)
-          (subst (λ (y : ℕ). IsTrue (name y == x)) (sym (k.place h)) (and-first (name h.place == x) (holds_item r.card h i) u))
-          (k.items h i (and-second (name h.place == x) (holds_item r.card h i) u))) t;
+      (subst (λ (y : ℕ). IsTrue (name y == x)) (sym (k.place h)) (and-first (name h.place == x) (holds_item r.card h i) u))
+      (k.items h i (and-second (name h.place == x) (holds_item r.card h i) u))) t;
   whole_other = λ q ne. any_same change new p (λ h. h.place == q && h.is_whole) r.held (rw (far new.place p q ne k.new_place) refl)
       (λ h e. rw (far (change h).place p q ne (k.place h ∙ e)) (rw (far h.place p q ne e) refl));
   cards_other = λ q ne. any_same change new p (λ h. h.place == q && has_any h.cards) r.held (rw (far new.place p q ne k.new_place) refl)
@@ -155,10 +154,12 @@ held-all r p i t = all r.card r.held p i t
     here true true b t = refl
     here true false b t = absurd (let no : ⊥ = cc in no)
     here false whole b t = absurd (let no : ⊥ = cc in no)
+
     both : (a b c d : Bool) → (IsTrue a → IsTrue c) → (IsTrue b → IsTrue d) → IsTrue (a || b) → IsTrue (c || d)
     both true b c d f g t = or-first c d (f refl)
     both false b true d f g t = refl
     both false b false d f g t = g t
+
     all : (card : ℕ) (hs : List Held) (p i : ℕ) → IsTrue (is_whole_among hs p) → IsTrue (list_any (λ h. h.place == p && holds_item card h i) hs)
     all card [] p i t = t
     all card (h ∷ hs) p i t = both (h.place == p && h.is_whole) (is_whole_among hs p) (h.place == p && holds_item card h i) (list_any (λ g. g.place == p && holds_item card g i) hs)

@@ -1,5 +1,5 @@
 -- A place is looked for among sorted ones, and a set that has what a list has.
-use Rattle.std.proofs.Common.{◌≡◌, ℕ, ◌<◌, ◌≤◌, ◌+◌, Bool, true, false, nat_eq, List, [], ◌∷◌, ◌++◌, length, get_or, Result, Ok, Err, is_ok, refl, sym, ap, ap₂, ◌∙◌, arith, subst, inl, inr}
+use Rattle.std.proofs.Common.{◌≡◌, ℕ, ◌<◌, ◌≤◌, Bool, true, false, nat_eq, List, [], ◌∷◌, ◌++◌, length, get_or, Result, Ok, Err, is_ok, refl, sym, ap, ap₂, ◌∙◌, arith, subst, inl, inr}
 use Rattle.std.specs.Prelude.{IsSorted, ◌==◌, ◌||◌, not}
 use Rattle.std.specs.Ordering.{nat_cmp}
 use Rattle.std.specs.List.{list_any}

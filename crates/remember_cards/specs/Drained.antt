@@ -1,8 +1,8 @@
 -- What is handed out, and what is left then.
-use Rattle.std.specs.Prelude.{◌≡◌, ◌≢◌, ℕ, ◌+◌, ◌*◌, ◌<◌, ◌≤◌, Bool, IsTrue, true, false, ◌⊎◌, if◌then◌else◌, List, [], ◌∷◌, map, length, min, Option, Some, None, sum_by}
+use Rattle.std.specs.Prelude.{◌≡◌, ◌≢◌, ℕ, ◌+◌, ◌*◌, ◌<◌, ◌≤◌, Bool, IsTrue, false, ◌⊎◌, if◌then◌else◌, List, [], ◌∷◌, map, length, min, Option, Some, None, sum_by}
 use Rattle.object_model.specs.Sets.{is_in}
 use Rattle.remember_cards.specs.declared.Span.{Span}
-use Rattle.remember_cards.specs.Remembered.{Held, Remembered, held_whole, held_places, is_held_whole, has_held_cards, is_held}
+use Rattle.remember_cards.specs.Remembered.{Held, held_whole, held_places, is_held_whole, has_held_cards, is_held}
 use Rattle.remember_cards.specs.Remembering.{Remembering, remembered_by}
 
 -- the greatest word, which stands for all numbers above it too

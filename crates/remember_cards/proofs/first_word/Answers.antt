@@ -1,7 +1,6 @@
 use Rattle.std.proofs.Common.{List, ap}
 use Rattle.heap_space.specs.Places.{Placed}
 use Rattle.remember_cards.proofs.HeadLaws.{with_word-same}
-use Rattle.remember_cards.proofs.RememberLaws.{more_held}
 use Rattle.remember_cards.proofs.first_word.Goals as goal
 
 pub returns-clause-same : goal.returns-clause-same

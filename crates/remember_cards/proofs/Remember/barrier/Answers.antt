@@ -1,11 +1,11 @@
-use Rattle.std.proofs.Common.{◌≡◌, ◌≢◌, ℕ, true, false, IsTrue, refl, sym, ap, ap₂, ◌∙◌, subst}
+use Rattle.std.proofs.Common.{◌≡◌, ℕ, true, false, IsTrue, sym, ap, ◌∙◌, subst}
 use Rattle.heap_space.specs.Places.{word_at}
 use Rattle.heap_space.specs.Memory.{Memory}
 use Rattle.heap_space.proofs.Blocks.{word_at-here}
 use Rattle.object_header.specs.Words.{has_flag, without_flag}
 use Rattle.object_header.specs.declared.flags.Flag.TheVariants.{Track}
 use Rattle.object_header.proofs.WordLaws.{without_flag-stays}
-use Rattle.remember_cards.specs.Remembered.{Remembered, RemembersMore, is_held_whole, is_held, with_whole, hold_whole}
+use Rattle.remember_cards.specs.Remembered.{RemembersMore, is_held_whole, is_held, hold_whole}
 use Rattle.remember_cards.specs.Tracking.{IsTracked, with_head}
 use Rattle.remember_cards.specs.Remembering.{Remembering, remembered_by}
 use Rattle.remember_cards.specs.Entries.{AreOrderly}
@@ -42,9 +42,9 @@ after c = record { card = c.self.inside.card; entries = c.hold_whole.new.self; k
 after-is : (c : goal.After-write) → after c ≡ (let m : Remembering = record c.args.self.now { entries = hold_whole c.args.self.now.entries c.args.a } in m)
 after-is c =
     ap (λ (m : Remembering). let n : Remembering = record { card = c.self.inside.card; entries = m.entries; kept = c.self.inside.kept } in n)
-        (let m : Remembering = record { card = c.self.inside.card; entries = c.hold_whole.new.self; kept = c.self.inside.kept } in
-        let n : Remembering = record { card = c.self.inside.card; entries = hold_whole c.self.inside.entries c.args.a; kept = c.self.inside.kept } in
-        let same : m ≡ n = (λ i. record { card = c.self.inside.card; entries = c.in_ok-hold_whole.ensures.ok i; kept = c.self.inside.kept }) in same)
+    (let m : Remembering = record { card = c.self.inside.card; entries = c.hold_whole.new.self; kept = c.self.inside.kept } in
+    let n : Remembering = record { card = c.self.inside.card; entries = hold_whole c.self.inside.entries c.args.a; kept = c.self.inside.kept } in
+    let same : m ≡ n = (λ i. record { card = c.self.inside.card; entries = c.in_ok-hold_whole.ensures.ok i; kept = c.self.inside.kept }) in same)
     ∙ ap (λ (m : Remembering). let n : Remembering = record m { entries = hold_whole m.entries c.args.a } in n) c.self.view_is
 
 pub returns-clause-remembered : goal.returns-clause-remembered

@@ -1,4 +1,4 @@
-use Rattle.std.proofs.Common.{◌≡◌, ℕ, ◌+◌, ◌-◌, ◌/◌, ◌<◌, true, false, IsTrue, suc, List, ◌∷◌, sym, ap, ◌∙◌, subst, arith}
+use Rattle.std.proofs.Common.{◌≡◌, ℕ, ◌+◌, ◌-◌, ◌/◌, false, IsTrue, List, ◌∷◌, sym, ap, ◌∙◌, subst, arith}
 use Rattle.heap_space.specs.Places.{word_at}
 use Rattle.heap_space.specs.Memory.{Memory}
 use Rattle.heap_space.proofs.Blocks.{word_at-here}
@@ -16,7 +16,7 @@ pub returns-then-not-is_set-2-clause-covered : goal.returns-then-not-is_set-2-cl
 returns-then-not-is_set-2-clause-covered c = λ j low high.
     held-all (remembered_by c.args.self.now) c.args.a j
     (tells_whole (is_held_whole (remembered_by c.args.self.now) c.args.a) (has_flag (word_at c.args.space.now.blocks c.args.a) Track) c.requires.tracked.track
-        (ap (λ (w : ℕ). has_flag w Track) (sym c.first_word-head.ensures.word) ∙ (sym c.is_set-2.ensures ∙ c.if-not-is_set-2.true)))
+    (ap (λ (w : ℕ). has_flag w Track) (sym c.first_word-head.ensures.word) ∙ (sym c.is_set-2.ensures ∙ c.if-not-is_set-2.true)))
 
 not-whole : (c : goal.After-write) → is_held_whole (remembered_by c.args.self.now) c.args.a ≡ false
 not-whole c = tells_not (is_held_whole (remembered_by c.args.self.now) c.args.a) (has_flag (word_at c.args.space.now.blocks c.args.a) Track) c.requires.tracked.track
@@ -58,5 +58,5 @@ pub returns-clause-covered : goal.returns-clause-covered
 returns-clause-covered c = λ j low high.
     subst (λ (m : Remembering). IsTrue (is_held (remembered_by m) c.args.a j)) (sym (after-is c))
     (cards_covered c.args.self.now c.args.a j (first c ∷ rest c) (j / c.self.inside.card) (not-whole c)
-        (item_card c.self.inside.card c.args.i c.args.n j c.self.invariant (omega (arith, low, high)) low high)
-        (ap (λ (m : Remembering). j / m.card) c.self.view_is))
+    (item_card c.self.inside.card c.args.i c.args.n j c.self.invariant (omega (arith, low, high)) low high)
+    (ap (λ (m : Remembering). j / m.card) c.self.view_is))

@@ -1,7 +1,7 @@
-use Rattle.std.proofs.Common.{ℕ, List, IfSome, sym, ap, ◌∙◌, subst}
+use Rattle.std.proofs.Common.{List, IfSome, sym, subst}
 use Rattle.remember_cards.specs.Remembered.{Held}
 use Rattle.remember_cards.specs.Remembering.{Remembering}
-use Rattle.remember_cards.specs.Drained.{HandsOut, left_of}
+use Rattle.remember_cards.specs.Drained.{HandsOut}
 use Rattle.remember_cards.proofs.HandLaws.{hands_out}
 use Rattle.remember_cards.proofs.Remember.drain_next.Goals as goal
 

@@ -1,7 +1,6 @@
 use Rattle.std.proofs.Common.{ap, ◌∙◌, None}
 use Rattle.remember_cards.specs.Entries.{marks_in, with_marks}
 use Rattle.remember_cards.proofs.TableLaws.{removed}
-use Rattle.remember_cards.proofs.OrderLaws.{orderly}
 use Rattle.remember_cards.proofs.arrays.Arrays.remove.Goals as goal
 
 pub returns : goal.returns

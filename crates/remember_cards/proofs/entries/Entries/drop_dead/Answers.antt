@@ -1,8 +1,7 @@
-use Rattle.std.proofs.Common.{rules, of_calls, ◌≡◌, ℕ, List, sym, ap, ◌∙◌, subst}
+use Rattle.std.proofs.Common.{rules, of_calls, ◌≡◌, sym, ap, ◌∙◌, subst}
 use Rattle.std.specs.Prelude.{not, filter}
 use Rattle.std.proofs.lemmas.Fn.{filter_same}
 use Rattle.object_model.specs.Sets.{is_in}
-use Rattle.remember_cards.specs.Remembered.{Held}
 use Rattle.remember_cards.specs.Entries.{marks_in, entries_of, AreListed}
 use Rattle.remember_cards.proofs.DropLaws.{dropped, listed_dropped}
 use Rattle.remember_cards.proofs.entries.Entries.drop_dead.Goals as goal

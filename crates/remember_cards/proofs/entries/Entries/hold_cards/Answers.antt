@@ -1,5 +1,4 @@
-use Rattle.std.proofs.Common.{◌≡◌, ℕ, ◌+◌, ◌-◌, Bool, true, false, List, ◌∷◌, [], ◌++◌, is_some, refl, sym, ap, ◌∙◌, subst}
-use Rattle.std.specs.Prelude.{not}
+use Rattle.std.proofs.Common.{◌≡◌, ℕ, ◌+◌, ◌-◌, true, false, List, ◌∷◌, [], ◌++◌, is_some, sym, ap, ◌∙◌, subst}
 use Rattle.remember_cards.specs.Remembered.{Held, is_whole_among, hold_cards}
 use Rattle.remember_cards.specs.Remembering.{cards_from}
 use Rattle.remember_cards.specs.Entries.{marks_in, entries_of, AreListed}

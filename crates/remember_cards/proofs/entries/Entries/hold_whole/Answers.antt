@@ -23,8 +23,8 @@ pub returns-in_err-push_back-clause-err : goal.returns-in_err-push_back-clause-e
 returns-in_err-push_back-clause-err c =
     on_err c.from_residual.result
     (ap₂ (λ (m : MarksAt) (order : List ℕ). entries_of m order)
-        (whole_unmarked (marks_in c.self.inside.arrays) (marks_in c.set_whole.new.self) c.self.inside.order.items c.args.place c.self.invariant c.set_whole.ensures.whole (sym c.if-set_whole.ensures.found))
-        c.in_err-push_back.ensures.items
+    (whole_unmarked (marks_in c.self.inside.arrays) (marks_in c.set_whole.new.self) c.self.inside.order.items c.args.place c.self.invariant c.set_whole.ensures.whole (sym c.if-set_whole.ensures.found))
+    c.in_err-push_back.ensures.items
     ∙ c.self.view_is)
 
 pub invariant_of-self-2 : goal.invariant_of-self-2
@@ -33,7 +33,7 @@ invariant_of-self-2 c =
     ap (λ (hs : List Held). is_whole_among hs c.args.place) c.self.view_is ∙ c.requires in
     subst (AreListed (marks_in c.set_whole.new.self)) (sym c.in_ok-push_back.ensures.items)
     (whole_added_listed (marks_in c.self.inside.arrays) (marks_in c.set_whole.new.self) c.self.inside.order.items c.args.place c.self.invariant c.set_whole.ensures.whole
-        (sym c.if-set_whole.ensures.found) out)
+    (sym c.if-set_whole.ensures.found) out)
 
 pub returns-clause-ok : goal.returns-clause-ok
 returns-clause-ok c =
@@ -41,5 +41,5 @@ returns-clause-ok c =
     ap (λ (hs : List Held). is_whole_among hs c.args.place) c.self.view_is ∙ c.requires in
     ap (entries_of (marks_in c.set_whole.new.self)) c.in_ok-push_back.ensures.items
     ∙ (whole_added (marks_in c.self.inside.arrays) (marks_in c.set_whole.new.self) c.self.inside.order.items c.args.place c.self.invariant c.set_whole.ensures.whole
-        (sym c.if-set_whole.ensures.found) out
+    (sym c.if-set_whole.ensures.found) out
     ∙ ap (λ (hs : List Held). hold_whole hs c.args.place) c.self.view_is)

@@ -1,4 +1,4 @@
-use Rattle.std.proofs.Common.{List, subst}
+use Rattle.std.proofs.Common.{subst}
 use Rattle.remember_cards.specs.Entries.{marks_in, AreOrderly}
 use Rattle.remember_cards.proofs.OrderLaws.{orderly}
 use Rattle.remember_cards.proofs.entries.Entries.is_empty.Goals as goal

@@ -1,4 +1,4 @@
-use Rattle.std.proofs.Common.{◌≡◌, ℕ, Bool, true, false, List, ◌∷◌, drop, Option, sym, ap, ◌∙◌, subst}
+use Rattle.std.proofs.Common.{◌≡◌, true, false, ◌∷◌, drop, sym, ap, ◌∙◌, subst}
 use Rattle.std.specs.Option.{option_and_then}
 use Rattle.remember_cards.specs.Drained.{left_of}
 use Rattle.remember_cards.specs.Entries.{marks_in, entries_of, AreListed, AreOrderly, taken_card, is_more_left}
@@ -18,14 +18,14 @@ invariant_of-self c =
     let split = split-more c in
     subst (AreListed (marks_in c.take_card-taken.new.self)) (sym split)
     (more_listed (marks_in c.self.inside.arrays) (marks_in c.take_card-taken.new.self) (drop 1 c.self.inside.order.items) c.in_ok-place.field-0.now
-        (subst (AreListed (marks_in c.self.inside.arrays)) split c.self.invariant) c.take_card-taken.ensures.left (taken-more c))
+    (subst (AreListed (marks_in c.self.inside.arrays)) split c.self.invariant) c.take_card-taken.ensures.left (taken-more c))
 
 pub returns-then-is_more-clause-left : goal.returns-then-is_more-clause-left
 returns-then-is_more-clause-left c =
     let split = split-more c in
     ap (entries_of (marks_in c.take_card-taken.new.self)) split
     ∙ (more_left (marks_in c.self.inside.arrays) (marks_in c.take_card-taken.new.self) (drop 1 c.self.inside.order.items) c.in_ok-place.field-0.now
-        (subst (AreListed (marks_in c.self.inside.arrays)) split c.self.invariant) c.take_card-taken.ensures.left (taken-more c)
+    (subst (AreListed (marks_in c.self.inside.arrays)) split c.self.invariant) c.take_card-taken.ensures.left (taken-more c)
     ∙ ap left_of (ap (entries_of (marks_in c.self.inside.arrays)) (sym split) ∙ c.self.view_is))
 
 pub returns-then-is_more-clause-orderly : goal.returns-then-is_more-clause-orderly
@@ -39,7 +39,7 @@ pub invariant_of-self-2 : goal.invariant_of-self-2
 invariant_of-self-2 c =
     subst (AreListed (marks_in c.remove.new.self)) (sym c.pop_front.ensures.rest)
     (rest_listed (marks_in c.self.inside.arrays) (marks_in c.take_card-taken.new.self) (marks_in c.remove.new.self) (drop 1 c.self.inside.order.items) c.in_ok-place.field-0.now
-        (subst (AreListed (marks_in c.self.inside.arrays)) (split-rest c) c.self.invariant) c.take_card-taken.ensures.left c.remove.ensures)
+    (subst (AreListed (marks_in c.self.inside.arrays)) (split-rest c) c.self.invariant) c.take_card-taken.ensures.left c.remove.ensures)
 
 pub returns-clause-left : goal.returns-clause-left
 returns-clause-left c =
@@ -47,7 +47,7 @@ returns-clause-left c =
     ap is_more_left (sym c.take_card-taken.ensures.card) ∙ (sym c.is_more.ensures ∙ c.if-is_more.false) in
     ap (entries_of (marks_in c.remove.new.self)) c.pop_front.ensures.rest
     ∙ (rest_left (marks_in c.self.inside.arrays) (marks_in c.take_card-taken.new.self) (marks_in c.remove.new.self) (drop 1 c.self.inside.order.items) c.in_ok-place.field-0.now
-        (subst (AreListed (marks_in c.self.inside.arrays)) (split-rest c) c.self.invariant) c.take_card-taken.ensures.left c.remove.ensures other
+    (subst (AreListed (marks_in c.self.inside.arrays)) (split-rest c) c.self.invariant) c.take_card-taken.ensures.left c.remove.ensures other
     ∙ ap left_of (ap (entries_of (marks_in c.self.inside.arrays)) (sym (split-rest c)) ∙ c.self.view_is))
 
 pub returns-clause-orderly : goal.returns-clause-orderly
