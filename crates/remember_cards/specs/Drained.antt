@@ -1,8 +1,8 @@
 -- What is handed out, and what is left then.
-use Rattle.std.specs.Prelude.{◌≡◌, ◌≢◌, ℕ, ◌+◌, ◌*◌, ◌<◌, ◌≤◌, Bool, IsTrue, true, false, ◌⊎◌, if◌then◌else◌, List, [], ◌∷◌, map, length, min, Option, Some, None, sum_by}
+use Rattle.std.specs.Prelude.{◌≡◌, ◌≢◌, ℕ, ◌+◌, ◌*◌, ◌<◌, ◌≤◌, Bool, IsTrue, false, ◌⊎◌, if◌then◌else◌, List, [], ◌∷◌, map, length, min, Option, Some, None, sum_by}
 use Rattle.object_model.specs.Sets.{is_in}
 use Rattle.remember_cards.specs.declared.Span.{Span}
-use Rattle.remember_cards.specs.Remembered.{Held, Remembered, held_whole, held_places, is_held_whole, has_held_cards, is_held}
+use Rattle.remember_cards.specs.Remembered.{Held, held_whole, held_places, is_held_whole, has_held_cards, is_held}
 use Rattle.remember_cards.specs.Remembering.{Remembering, remembered_by}
 
 -- the greatest word, which stands for all numbers above it too
@@ -11,7 +11,7 @@ limited n = min n 18446744073709551615
 
 -- the items of a card
 abbrev pub card_span : ℕ → ℕ → ℕ → Span
-card_span card place number = record { a = place; from = limited (card * number); to = limited (card * (number + 1)) }
+card_span card place number = record { a = place; from = limited (card * number); to = limited (card * number + card) }
 
 -- all items
 abbrev pub whole_span : ℕ → Span
@@ -25,6 +25,11 @@ span_of_cards card place (number ∷ cards) = card_span card place number
 -- what is handed out of an object that is remembered
 abbrev pub span_of : ℕ → Held → Span
 span_of card held = if held.is_whole then whole_span held.place else span_of_cards card held.place held.cards
+
+-- what is handed out of the object at a place: all items, or those of the card that was taken
+abbrev pub span_of_taken : ℕ → ℕ → Option (ℕ × Bool) → Span
+span_of_taken card place None = whole_span place
+span_of_taken card place (Some taken) = card_span card place taken.0
 
 -- what is handed out next
 abbrev pub next_span : ℕ → List Held → Option Span

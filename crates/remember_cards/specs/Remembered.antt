@@ -31,13 +31,21 @@ holds_item card held item = held.is_whole || is_in (item / card) held.cards
 abbrev pub held_places : Remembered → List ℕ
 held_places remembered = map (λ held. held.place) remembered.held
 
+-- whether the object at a place is whole among these
+abbrev pub is_whole_among : List Held → ℕ → Bool
+is_whole_among entries place = list_any (λ held. held.place == place && held.is_whole) entries
+
+-- whether the object at a place has cards among these
+abbrev pub has_cards_among : List Held → ℕ → Bool
+has_cards_among entries place = list_any (λ held. held.place == place && has_any held.cards) entries
+
 -- whether the object at a place is remembered whole
 abbrev pub is_held_whole : Remembered → ℕ → Bool
-is_held_whole remembered place = list_any (λ held. held.place == place && held.is_whole) remembered.held
+is_held_whole remembered place = is_whole_among remembered.held place
 
 -- whether cards of the object at a place are remembered
 abbrev pub has_held_cards : Remembered → ℕ → Bool
-has_held_cards remembered place = list_any (λ held. held.place == place && has_any held.cards) remembered.held
+has_held_cards remembered place = has_cards_among remembered.held place
 
 -- whether an item of the object at a place is remembered
 abbrev pub is_held : Remembered → ℕ → ℕ → Bool
@@ -51,10 +59,14 @@ is_held_of remembered name birth item = list_any (λ held. name held.place == bi
 abbrev pub held_whole : ℕ → Held
 held_whole place = record { place = place; is_whole = true; cards = [] }
 
+-- entries, where that of the object at a place is changed, or a new one comes last
+abbrev pub with_entry : (Held → Held) → Held → List Held → ℕ → List Held
+with_entry change new [] place = new ∷ []
+with_entry change new (held ∷ rest) place = if held.place == place then change held ∷ rest else held ∷ with_entry change new rest place
+
 -- what is remembered, where the object at a place is from now on remembered whole
 abbrev pub hold_whole : List Held → ℕ → List Held
-hold_whole [] place = held_whole place ∷ []
-hold_whole (held ∷ rest) place = if held.place == place then record held { is_whole = true } ∷ rest else held ∷ hold_whole rest place
+hold_whole entries place = with_entry (λ held. record held { is_whole = true }) (held_whole place) entries place
 
 abbrev pub with_whole : Remembered → ℕ → Remembered
 with_whole remembered place = record remembered { held = hold_whole remembered.held place }
@@ -68,10 +80,10 @@ abbrev pub with_cards : List ℕ → List ℕ → List ℕ
 with_cards marked [] = marked
 with_cards marked (card ∷ cards) = with_card (with_cards marked cards) card
 
--- what is remembered, where these cards of the object at a place are remembered from now on
+-- what is remembered, where these cards of the object at a place are from now on remembered too
 abbrev pub hold_cards : List Held → ℕ → List ℕ → List Held
-hold_cards [] place cards = record { place = place; is_whole = false; cards = with_cards [] cards } ∷ []
-hold_cards (held ∷ rest) place cards = if held.place == place then record held { cards = with_cards held.cards cards } ∷ rest else held ∷ hold_cards rest place cards
+hold_cards entries place cards =
+    with_entry (λ held. record held { cards = with_cards held.cards cards }) (record { place = place; is_whole = false; cards = with_cards [] cards }) entries place
 
 -- what is remembered, without the objects of places that pass
 abbrev pub without_dead : (ℕ → Bool) → Remembered → Remembered

@@ -1,6 +1,6 @@
 -- The flags of a settled object that tell what is remembered of it.
 use Rattle.std.specs.Prelude.{◌≡◌, ℕ, zero, suc, Bool, not, if◌then◌else◌}
-use Rattle.heap_space.specs.Places.{word_at, with_word}
+use Rattle.heap_space.specs.Places.{with_word}
 use Rattle.heap_space.specs.Memory.{Memory}
 use Rattle.object_header.specs.Words.{has_flag, with_flag, without_flag}
 use Rattle.object_header.specs.declared.flags.Flag.{Flag}

@@ -14,7 +14,17 @@ ghost use Rattle.remember_cards.specs.Tracking.{IsTracked, with_head, whole_head
 ghost use Rattle.remember_cards.specs.Remembering.{nothing_remembered, remembered_by, given_whole, given_items, kept_place, without_places};
 ghost use Rattle.remember_cards.specs.Drained.{next_span, drained, spans_left, HandsOut};
 
+mod arrays;
+mod entries;
+mod kept;
+mod marks;
+#[cfg(test)]
+mod tests;
+
+use crate::entries::Entries;
+use crate::kept::Kept;
 use heap_space::Space;
+use object_header::{Flag, clear, is_set, set};
 use std::alloc::{AllocError, Global};
 use std::marker::Model;
 
@@ -30,22 +40,24 @@ pub struct Span {
     pub to: u64,
 }
 
-#[derive(Drop)]
-enum Never {}
-
-/// What is remembered for the next minor collection, in the order of the first remembering.
+/// What is remembered for the next minor collection, in the order of the first remembering. Beside
+/// it stand the objects that are kept for the collection after it.
 #[derive(Drop)]
 pub struct Remember {
-    never: Never,
+    card: u64,
+    entries: Entries,
+    kept: Kept,
 }
 
 impl Model for Remember {
-    ghost use Rattle.std.specs.Prelude.{[]};
+    ghost use Rattle.std.specs.Prelude.{◌<◌};
     ghost use Rattle.remember_cards.specs.Remembering.{Remembering};
 
     ghost Value = { Remembering };
 
-    ghost view = { λ s. record { card = 0; entries = []; kept = [] } };
+    ghost view = { λ r. record { card = r.card; entries = r.entries; kept = r.kept } };
+
+    ghost invariant = { λ r. 0 < r.card };
 }
 
 impl Remember {
@@ -54,7 +66,11 @@ impl Remember {
         requires { 0 < card }
         ensures { IfOk result (λ remember. remember ≡ nothing_remembered card) }
     {
-        Err(AllocError)
+        Ok(Remember {
+            card,
+            entries: Entries::new(alloc)?,
+            kept: Kept::new(alloc),
+        })
     }
 
     /// Remembers the object at the place `a` whole, before any of its references is written. It
@@ -74,7 +90,15 @@ impl Remember {
         ensures covered { OnOk result ((i : ℕ) → IsTrue (is_held (remembered_by self.new) a i)) }
         ensures err { OnErr result ((self.new ≡ self.old) × (space.new ≡ space.old)) }
     {
-        match self.never {}
+        // Called for its clause that each object has one entry.
+        let _ = self.entries.is_empty();
+        let head = first_word(space, a);
+        if !is_set(head, Flag::Track) {
+            return Ok(());
+        }
+        self.entries.hold_whole(a)?;
+        space.write(a, clear(head, Flag::Track));
+        Ok(())
     }
 
     /// Remembers item `i` of the object at the place `a` before it is written: by its card where the
@@ -93,7 +117,7 @@ impl Remember {
         ensures covered { OnOk result (IsTrue (is_held (remembered_by self.new) a i)) }
         ensures err { OnErr result ((self.new ≡ self.old) × (space.new ≡ space.old)) }
     {
-        match self.never {}
+        self.barrier_copy(space, a, i, 1)
     }
 
     /// Remembers the `n` items from `i` on of the object at the place `a` before they are written:
@@ -101,7 +125,13 @@ impl Remember {
     /// whole. Of no item nothing is remembered. Without memory nothing changes.
     ///
     /// The flags of the object change as by `barrier_item`.
-    pub fn barrier_copy(&mut self, space: &mut Space, a: u64, i: u64, n: u64) -> Result<(), AllocError>
+    pub fn barrier_copy(
+        &mut self,
+        space: &mut Space,
+        a: u64,
+        i: u64,
+        n: u64,
+    ) -> Result<(), AllocError>
         requires there { IsTrue (has space.old.blocks a) }
         requires tracked { IsTracked (remembered_by self.old) a (word_at space.old.blocks a) }
         requires items { i + n < 2 ^ 64 }
@@ -112,7 +142,21 @@ impl Remember {
         ensures covered { OnOk result ((j : ℕ) → i ≤ j → j < i + n → IsTrue (is_held (remembered_by self.new) a j)) }
         ensures err { OnErr result ((self.new ≡ self.old) × (space.new ≡ space.old)) }
     {
-        match self.never {}
+        let head = first_word(space, a);
+        if n == 0 {
+            return Ok(());
+        }
+        if !is_set(head, Flag::HasCards) {
+            return self.barrier(space, a);
+        }
+        if !is_set(head, Flag::Track) {
+            return Ok(());
+        }
+        let first = i / self.card;
+        let last = (i + (n - 1)) / self.card;
+        self.entries.hold_cards(a, first, last)?;
+        space.write(a, set(head, Flag::CardsSet));
+        Ok(())
     }
 
     /// Takes the next span of what is remembered off, in the order of the first remembering: all
@@ -128,7 +172,11 @@ impl Remember {
         ensures fewer { IfSome result (λ span. spans_left self.new + 1 ≡ spans_left self.old) }
         ensures none { IfNone result (remembered_by self.new ≡ remembered_by self.old) }
     {
-        match self.never {}
+        let span = self.entries.take_span(self.card);
+        if span.is_none() {
+            self.entries.take_over(&mut self.kept);
+        }
+        span
     }
 
     /// Keeps the object at the place `a` whole for the next collection, while this one is handed
@@ -139,21 +187,21 @@ impl Remember {
         ensures covered { OnOk result ((i : ℕ) → IsTrue (is_held (remembered_by self.new) a i)) }
         ensures err { OnErr result (self.new ≡ self.old) }
     {
-        match self.never {}
+        self.kept.keep(a)
     }
 
     /// Whether the object at the place `a` is kept for the next collection.
     pub fn is_kept(&self, a: u64) -> bool
         ensures { result ≡ is_in a self.now.kept }
     {
-        match self.never {}
+        self.kept.holds(a)
     }
 
     /// Whether some cards of the object at the place `a` are remembered.
     pub fn has_cards(&self, a: u64) -> bool
         ensures { result ≡ has_held_cards (remembered_by self.now) a }
     {
-        match self.never {}
+        self.entries.has_cards(a)
     }
 
     /// Takes the objects at these places off, which are sorted. No memory.
@@ -162,7 +210,8 @@ impl Remember {
         ensures dropped { self.new ≡ without_places self.old dead.now }
         ensures remembered { remembered_by self.new ≡ without_dead (λ place. is_in place dead.now) (remembered_by self.old) }
     {
-        match self.never {}
+        self.entries.drop_dead(dead);
+        self.kept.drop_dead(dead);
     }
 
     /// Whether an array of so many references has a card table: exactly where it has more than one
@@ -170,6 +219,18 @@ impl Remember {
     pub fn wants_cards(&self, ref_count: u64) -> bool
         ensures { result ≡ nat_lt self.now.card ref_count }
     {
-        match self.never {}
+        ref_count > self.card
     }
+}
+
+// The first word of the object at the place. A caller also learns that to write it again changes
+// nothing.
+fn first_word(space: &Space, a: u64) -> u64
+    requires { IsTrue (has space.now.blocks a) }
+    ensures word { result ≡ word_at space.now.blocks a }
+    ensures same { with_head space.now a (word_at space.now.blocks a) ≡ space.now }
+{
+    // Called for its clause on how the blocks lie.
+    let _ = space.arena_words();
+    space.read(a)
 }
