@@ -2,7 +2,7 @@
 use Rattle.std.proofs.Common.{◌≡◌, ℕ, Bool, true, false, cond, IsTrue, List, [], ◌∷◌, map, Option, None, is_some, refl, sym, ap, ap₂, ◌∙◌, subst, inl, inr}
 use Rattle.std.specs.Prelude.{◌==◌, ◌||◌, not, if◌then◌else◌, filter}
 use Rattle.std.proofs.lemmas.Bool.{cases_Bool}
-use Rattle.object_view.proofs.WordLaws.{is_in-head, is_in-tail, is_in-cases}
+use Rattle.object_model.proofs.Members.{is_in-head, is_in-tail, is_in-cases}
 use Rattle.object_model.specs.Sets.{is_in}
 use Rattle.remember_cards.specs.Remembered.{Held, held_whole, has_any}
 use Rattle.remember_cards.specs.Entries.{Marks, MarksAt, held_at, entries_of, DoDiffer, AreListed, AreKept}

@@ -4,7 +4,7 @@ use Rattle.std.specs.Prelude.{◌==◌, ◌||◌, not, if◌then◌else◌}
 use Rattle.std.specs.Option.{option_map, option_and_then}
 use Rattle.std.proofs.lemmas.Bool.{eq-eqb, cases_Bool}
 use Rattle.std.proofs.lemmas.Bool.Decides.{eqb_tells}
-use Rattle.object_view.proofs.WordLaws.{is_in-head, is_in-cases, is_in-last}
+use Rattle.object_model.proofs.Members.{is_in-head, is_in-cases, is_in-last}
 use Rattle.object_model.specs.Sets.{is_in}
 use Rattle.remember_cards.specs.Remembered.{Held, held_whole, has_any, is_whole_among, has_cards_among, with_cards, hold_whole, hold_cards}
 use Rattle.remember_cards.specs.Drained.{span_of, span_of_taken, left_of}

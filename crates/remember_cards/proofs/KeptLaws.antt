@@ -5,7 +5,7 @@ use Rattle.std.specs.List.{list_any}
 use Rattle.std.proofs.lemmas.Bool.{cases_Bool}
 use Rattle.std.proofs.lemmas.List.Folds.{list_any-append}
 use Rattle.std.proofs.lemmas.List.Elements.{filter-append}
-use Rattle.object_view.proofs.WordLaws.{is_in-last}
+use Rattle.object_model.proofs.Members.{is_in-last}
 use Rattle.object_model.specs.Sets.{is_in}
 use Rattle.remember_cards.specs.Remembered.{Held, Remembered, held_whole, has_cards_among, has_held_cards, has_any, holds_item, is_held, without_dead}
 use Rattle.remember_cards.specs.Remembering.{Remembering, remembered_by, without_places}

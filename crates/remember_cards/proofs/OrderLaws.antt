@@ -4,7 +4,7 @@ use Rattle.std.specs.Prelude.{◌==◌, ◌&&◌, ◌||◌}
 use Rattle.std.proofs.lemmas.Bool.{eq-eqb, ne_eqb, cases_Bool}
 use Rattle.std.proofs.lemmas.Bool.Decides.{eqb_tells}
 use Rattle.std.proofs.lemmas.List.{map-append}
-use Rattle.object_view.proofs.WordLaws.{is_in-cases, is_in-before, is_in-append}
+use Rattle.object_model.proofs.Members.{is_in-cases, is_in-before, is_in-append}
 use Rattle.object_model.specs.Sets.{is_in}
 use Rattle.remember_cards.specs.Remembered.{Held, held_whole, has_any, is_whole_among, with_entry}
 use Rattle.remember_cards.specs.Entries.{Marks, MarksAt, with_marks, held_at, entries_of, DoDiffer, AreOrderly, AreListed}
