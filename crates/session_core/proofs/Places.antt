@@ -6,8 +6,7 @@ use Rattle.object_model.specs.declared.settings.Settings.{Settings}
 use Rattle.object_model.specs.Setup.{defaults}
 use Rattle.store_model.specs.Store.{Store, empty_store}
 use Rattle.store_model.specs.Progress.{Progress, at_start}
-use Rattle.heap_core.specs.Parts.{HeapSeen, closed_heap}
-use Rattle.heap_core.specs.StandsFor.{StandsFor}
+use Rattle.heap_core.specs.Heap.{HeapSeen, closed_heap, StandsFor}
 use Rattle.session_core.specs.Seen.{SessionSeen}
 use Rattle.session_core.specs.Standing.{HasHeap, HasStore, StandsAt}
 
