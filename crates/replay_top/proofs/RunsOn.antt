@@ -12,7 +12,7 @@ use Rattle.store_model.specs.EndOfRun.{IsDone}
 use Rattle.store_model.specs.Transcript.{transcript_text}
 use Rattle.script_text.specs.Reader.{ReaderState, ahead, IsInStep, HandsOut, Begins, is_one_line}
 use Rattle.session_core.specs.Seen.{SessionSeen}
-use Rattle.heap_core.specs.Parts.{HeapSeen, closed_heap}
+use Rattle.heap_core.specs.Heap.{HeapSeen, closed_heap}
 use Rattle.session_core.proofs.Places.{stands_first}
 use Rattle.session_core.specs.Standing.{StandsAt}
 use Rattle.replay_top.specs.Lines.{DoesLine}

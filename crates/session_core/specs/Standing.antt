@@ -1,5 +1,5 @@
 -- Where a session and its heap stand, and what an item does there.
-use Rattle.std.specs.Prelude.{◌≡◌, ℕ, List, [], ◌∷◌, ◌++◌, Option, Some, None, is_none, option_map, Result, Ok, Err, IsTrue, ◌⊎◌}
+use Rattle.std.specs.Prelude.{◌≡◌, ℕ, Bool, true, false, List, [], ◌∷◌, ◌++◌, Option, Some, None, is_none, option_map, Result, Ok, Err, IsTrue, ◌⊎◌}
 use Rattle.type_table.specs.declared.info.TypeInfo.{TypeInfo}
 use Rattle.type_table.specs.Table.{Table, with_value}
 use Rattle.text_model.specs.declared.item.Item.{Item}
@@ -17,7 +17,7 @@ use Rattle.store_model.specs.Unbuilt.{Room, program_checks, program_refusal}
 use Rattle.store_model.specs.Transcript.{Group, ItemDoes, ItemExceeds, group_lines}
 use Rattle.heap_parts.specs.Parts.{HeapParts}
 use Rattle.heap_core.specs.Heap.{HeapSeen, closed_heap, heap_of, StandsFor}
-use Rattle.heap_core.specs.Commands.{nothing_told, told_by, room_if, room_by}
+use Rattle.heap_core.specs.Commands.{nothing_told, told_by, room_if, room_by, setup_in}
 use Rattle.session_core.specs.declared.session.RunFault.{RunFault}
 use Rattle.session_core.specs.declared.session.RunFault.TheVariants.{Malformed, HeapLimit, OutOfMemory}
 use Rattle.session_core.specs.Blocks.{LeavesOff}
@@ -64,6 +64,16 @@ pub record StandsAt (session : SessionSeen) (heap : HeapSeen) (at : Progress) : 
 pub record IsPlaced (session : SessionSeen) (heap : HeapSeen) : Type 0 where
   pub at : Progress
   pub stands : StandsAt session heap at
+
+-- the settings and types of a heap: the script's, where a command came, and none before
+abbrev pub setup_begun : Bool → Setup → Option Setup
+setup_begun true setup = Some setup
+setup_begun false setup = None
+
+-- The heap stands where the script has come to: for the store that the commands left, with the script's settings and types.
+pub record HeapStandsAt (heap : HeapSeen) (at : Progress) : Type 0 where
+  pub store : StandsFor heap at.store
+  pub setup : setup_in heap ≡ setup_begun at.late at.setup
 
 -- a look at the store sees this
 abbrev pub seen_if : Option (Table TypeInfo) → HeapSeen → Look
