@@ -26,7 +26,7 @@ use Rattle.heap_core.specs.declared.fault.HeapFault.{HeapFault}
 use Rattle.heap_core.specs.declared.fault.HeapFault.TheVariants.{Spent, OutOfMemory as NoMemory}
 use Rattle.heap_core.specs.Heap.{HeapSeen, heap_of, closed_heap, StandsFor}
 use Rattle.heap_core.specs.Commands.{OfParts, AreReady, CanDo, IsFresh, IsStanding, Performs, Keeps, setup_in, told_by, room_by}
-use Rattle.heap_core.proofs.Calls.{look_told, room_is}
+use Rattle.heap_core.proofs.LookLaws.{look_told, room_is}
 use Rattle.session_core.specs.declared.session.RunFault.{RunFault}
 use Rattle.session_core.specs.declared.session.RunFault.TheVariants.{OutOfMemory}
 use Rattle.session_core.specs.Blocks.{LeadsByBlocks, NoBlock, LeavesStore, LeavesOff, makes_blocks}

@@ -20,7 +20,7 @@ use Rattle.store_model.specs.Refusal.{refusal_seen}
 use Rattle.store_model.specs.Unbuilt.{Room, room_of, program_checks, program_refusal}
 use Rattle.heap_core.specs.Heap.{HeapSeen, StandsFor}
 use Rattle.heap_core.specs.Commands.{nothing_told, told_by, room_by, room_if}
-use Rattle.heap_core.proofs.Calls.{look_told, room_is}
+use Rattle.heap_core.proofs.LookLaws.{look_told, room_is}
 use Rattle.session_core.specs.Seen.{SessionSeen}
 use Rattle.session_core.specs.Standing.{HasHeap, HasStore, StandsAt, seen_if, room_seen, setup_of, refusal_of}
 

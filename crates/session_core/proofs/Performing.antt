@@ -2,7 +2,6 @@
 use Rattle.std.proofs.Common.{◌≡◌, ℕ, Bool, true, false, List, [], ◌∷◌, ◌++◌, Option, Some, None, Result, Ok, Err, refl, sym, ap, ◌∙◌, subst, append-nil}
 use Rattle.std.specs.Prelude.{OnOk, OnErr, IfErr}
 use Rattle.text_model.specs.declared.command.Command.{Command}
-use Rattle.text_model.specs.declared.command.Command.TheVariants.{NewFixed, NewArray}
 use Rattle.text_model.specs.declared.line.Line.{Line}
 use Rattle.store_model.specs.Store.{Store}
 use Rattle.store_model.specs.Steps.{Does}
@@ -28,24 +27,6 @@ pub quiet : (old new : HeapSeen) (command same : Command) (before : List Line) (
     → OnOk r (Performs old new same [] []) → OnOk r (Performs old new command before before)
 quiet old new command same before (Ok done) is performs = told old new command same before [] before is performs (sym (append-nil before))
 quiet old new command same before (Err fault) is performs = tt
-
--- a birth
-pub born : (old new : HeapSeen) (command same : Command) (before after : List Line) (r : Result (Unit {0}) HeapFault) → command ≡ same
-    → OnOk r (Performs old new same before after) → OnOk r (Performs old new command before after)
-born old new command same before after r is performs = rw is performs
-
--- a birth of an object of a fixed type
-pub born_fixed : (old new : HeapSeen) (command : Command) (root type_id : ℕ) (before after : List Line) (r : Result (Unit {0}) HeapFault) → command ≡ NewFixed root type_id
-    → OnOk r (Performs old new (NewArray root type_id 0) before after) → OnOk r (Performs old new command before after)
-unfolding Does
-born_fixed old new command root type_id before after (Ok done) is performs = rw is (record {
-  setup = performs.setup;
-  same_spent = performs.same_spent;
-  lines = performs.lines;
-  appended = performs.appended;
-  does = performs.does;
-})
-born_fixed old new command root type_id before after (Err fault) is performs = tt
 
 -- how a heap that is not spent fails
 pub failed : (spent : Bool) {T : Type 0} (r : Result T HeapFault) → spent ≡ false → IfErr r (λ fault. fault ≡ fault_of spent) → IfErr r (λ fault. fault ≡ OutOfMemory)

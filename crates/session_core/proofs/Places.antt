@@ -10,9 +10,8 @@ use Rattle.store_model.specs.Progress.{Progress, at_start}
 use Rattle.store_model.proofs.Proper.{AreStructsInRange, IsInRange, links_in_range}
 use Rattle.std.proofs.lemmas.List.Elements.{All-nil}
 use Rattle.heap_parts.specs.Parts.{HeapParts}
-use Rattle.heap_core.specs.Heap.{HeapSeen, closed_heap, StandsFor}
+use Rattle.heap_core.specs.Heap.{HeapSeen, closed_heap, heap_of, StandsFor}
 use Rattle.heap_core.specs.Commands.{setup_in}
-use Rattle.heap_core.proofs.Calls.{sound_in}
 use Rattle.session_core.specs.Seen.{SessionSeen}
 use Rattle.session_core.specs.Standing.{HasHeap, HasStore, StandsAt, HeapStandsAt, setup_begun, types_in, table_of}
 
@@ -52,8 +51,8 @@ in_range_in : (types : Option (Table TypeInfo)) (settings : Settings) (heap : He
     → HasStore types settings heap store → IsInRange store
 in_range_in (Some types) settings heap store closed empty = rw empty (record { entries = All-nil _; numbers = All-nil _ })
 in_range_in None settings heap store has stands =
-    let sound = sound_in has.parts store (subst (λ (h : HeapSeen). StandsFor h store) has.is stands) in
-    links_in_range store.kept store.structs store.dead sound.links
+    let found : StandsFor (heap_of has.parts) store = subst (λ (h : HeapSeen). StandsFor h store) has.is stands in
+    links_in_range store.kept store.structs store.dead found.sound.links
 
 -- where a session and its heap stand, structures have their numbers and own counts in range
 pub in_range_at : (session : SessionSeen) (heap : HeapSeen) (at : Progress) → StandsAt session heap at → IsInRange at.store

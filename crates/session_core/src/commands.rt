@@ -1,5 +1,5 @@
 //! The commands that are not refused.
-ghost use Rattle.std.specs.Prelude.{◌≡◌, ◌<◌, ◌++◌, ◌∷◌, [], false, IfErr, OnOk, OnErr, vec_len, vec_capacity};
+ghost use Rattle.std.specs.Prelude.{◌≡◌, ◌<◌, false, IfErr, OnOk, OnErr, vec_len, vec_capacity};
 ghost use Rattle.heap_core.specs.declared.fault.HeapFault.TheVariants.{OutOfMemory};
 ghost use Rattle.heap_core.specs.Commands.{CanDo, Performs, Keeps};
 ghost use Rattle.session_core.specs.Commands.{is_birth, is_early, is_no_struct};
@@ -23,8 +23,8 @@ pub(crate) fn do_command(
     ensures cause { IfErr result (λ fault. fault ≡ OutOfMemory) }
 {
     match *command {
-        Command::NewFixed { root, type_id } => heap.new_object(root, type_id, 0, out),
-        Command::NewArray { root, type_id, len } => heap.new_object(root, type_id, len, out),
+        Command::NewFixed { root, type_id } => heap.new_fixed(root, type_id, out),
+        Command::NewArray { root, type_id, len } => heap.new_array(root, type_id, len, out),
         Command::NewWeak {
             root,
             type_id,
@@ -52,13 +52,13 @@ fn on_objects(heap: &mut Heap, command: &Command, out: &mut Vec<Line>) -> Result
         Command::Put { root, item, value } => heap.put(root, item, value),
         Command::Get { root, item } => {
             let value = heap.get(root, item)?;
-            append(out, Line::Got { value });
+            out.push_reserved(Line::Got { value });
             Ok(())
         }
         Command::Link { root, item, from } => heap.link(root, item, from),
         Command::Load { to, root, item } => {
             let birth = heap.load(to, root, item)?;
-            append(out, Line::Loaded { birth });
+            out.push_reserved(Line::Loaded { birth });
             Ok(())
         }
         Command::CopyRefs {
@@ -72,12 +72,12 @@ fn on_objects(heap: &mut Heap, command: &Command, out: &mut Vec<Line>) -> Result
         Command::DropRoot { root } => heap.drop_root(root),
         Command::Same { a, b } => {
             let yes = heap.same(a, b)?;
-            append(out, Line::SameAs { yes });
+            out.push_reserved(Line::SameAs { yes });
             Ok(())
         }
         Command::Used => {
             let (kept, husks) = heap.used()?;
-            append(out, Line::UsedIs { kept, husks });
+            out.push_reserved(Line::UsedIs { kept, husks });
             Ok(())
         }
         _ => on_identity(heap, command, out),
@@ -98,34 +98,34 @@ fn on_identity(heap: &mut Heap, command: &Command, out: &mut Vec<Line>) -> Resul
     match *command {
         Command::Ident { root } => {
             let place = heap.identity(root)?;
-            append(out, Line::IdentIs { place });
+            out.push_reserved(Line::IdentIs { place });
             Ok(())
         }
         Command::Hash { root } => {
             let value = heap.hash(root)?;
-            append(out, Line::HashIs { value });
+            out.push_reserved(Line::HashIs { value });
             Ok(())
         }
         Command::Place { root } => {
             let place = heap.where_is(root)?;
-            append(out, Line::PlaceIs { place });
+            out.push_reserved(Line::PlaceIs { place });
             Ok(())
         }
         Command::Pin { root } => {
             let yes = heap.pin(root)?;
-            append(out, Line::PinIs { yes });
+            out.push_reserved(Line::PinIs { yes });
             Ok(())
         }
         Command::Unpin { root } => heap.unpin(root),
         Command::Deref { to, root } => {
             let birth = heap.deref(to, root)?;
-            append(out, Line::Derefed { birth });
+            out.push_reserved(Line::Derefed { birth });
             Ok(())
         }
         Command::Register { root, queue } => heap.register(root, queue),
         Command::NextFinal { to, queue } => {
             let birth = heap.next_final(to, queue)?;
-            append(out, Line::NextIs { birth });
+            out.push_reserved(Line::NextIs { birth });
             Ok(())
         }
         _ => on_structs(heap, command, out),
@@ -155,38 +155,30 @@ fn on_structs(heap: &mut Heap, command: &Command, out: &mut Vec<Line>) -> Result
         Command::Dec { number } => {
             match heap.dec(number)? {
                 Dec::Lowered => {}
-                Dec::Deallocated => append(out, Line::Dealloc { number }),
+                Dec::Deallocated => out.push_reserved(Line::Dealloc { number }),
             }
             Ok(())
         }
         Command::Count { number } => {
             let value = heap.count(number)?;
-            append(out, Line::CountIs { value });
+            out.push_reserved(Line::CountIs { value });
             Ok(())
         }
         Command::FromObj { root } => {
             let number = heap.from_obj(root)?;
-            append(out, Line::FromObjIs { number });
+            out.push_reserved(Line::FromObjIs { number });
             Ok(())
         }
         Command::ToObj { to, number } => {
             let birth = heap.to_obj(to, number)?;
-            append(out, Line::ToObjIs { birth });
+            out.push_reserved(Line::ToObjIs { birth });
             Ok(())
         }
         Command::NextDead => {
             let number = heap.next_dead()?;
-            append(out, Line::NextDeadIs { number });
+            out.push_reserved(Line::NextDeadIs { number });
             Ok(())
         }
         _ => unreachable!(),
     }
-}
-
-/// Appends a line, for which there is room.
-fn append(out: &mut Vec<Line>, line: Line)
-    requires { vec_len out.old < vec_capacity out.old }
-    ensures { out.new.items ≡ out.old.items ++ line ∷ [] }
-{
-    out.push(line).unwrap();
 }

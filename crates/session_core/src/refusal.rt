@@ -364,8 +364,8 @@ impl Session {
         if unsettled + fresh + words > settings.nursery {
             return Some(Reason::NotBuilt);
         }
-        let kept = self.kept_words(heap);
-        if kept + words > settings.limit {
+        let counted = self.counted_words(heap);
+        if counted + words > settings.limit {
             return Some(Reason::NotBuilt);
         }
         None

@@ -1,5 +1,5 @@
 //! What a session's heap tells: before the first command, nothing.
-ghost use Rattle.std.specs.Prelude.{◌≡◌, ◌≤◌, IsSome};
+ghost use Rattle.std.specs.Prelude.{◌≡◌, ◌≤◌};
 ghost use Rattle.object_model.specs.Setup.{type_at};
 ghost use Rattle.session_core.specs.Standing.{IsPlaced, setup_of, seen_if, room_seen};
 
@@ -22,7 +22,7 @@ impl Session {
     pub(crate) fn unsettled_words(&self, heap: &Heap) -> u64
         requires { IsPlaced self.now heap.now }
         ensures value { result ≡ (room_seen self.now.types heap.now).unsettled }
-        ensures nursery { result ≤ self.now.settings.nursery }
+        ensures limit { result ≤ self.now.settings.limit }
     {
         match &self.types {
             None => heap.unsettled_words(),
@@ -42,14 +42,14 @@ impl Session {
         }
     }
 
-    /// The words of all objects.
-    pub(crate) fn kept_words(&self, heap: &Heap) -> u64
+    /// The words of all objects and husks.
+    pub(crate) fn counted_words(&self, heap: &Heap) -> u64
         requires { IsPlaced self.now heap.now }
         ensures value { result ≡ (room_seen self.now.types heap.now).counted }
         ensures limit { result ≤ self.now.settings.limit }
     {
         match &self.types {
-            None => heap.kept_words(),
+            None => heap.counted_words(),
             Some(_) => 0,
         }
     }
@@ -67,8 +67,7 @@ impl Session {
 
     /// Whether the object in a slot is pinned.
     pub(crate) fn is_pinned(&self, heap: &Heap, root: u32) -> bool
-        requires placed { IsPlaced self.now heap.now }
-        requires full { IsSome ((seen_if self.now.types heap.now).kind root) }
+        requires { IsPlaced self.now heap.now }
         ensures { result ≡ (seen_if self.now.types heap.now).is_pinned root }
     {
         match &self.types {
@@ -79,8 +78,7 @@ impl Session {
 
     /// Whether the object in a slot is registered, or waits.
     pub(crate) fn was_registered(&self, heap: &Heap, root: u32) -> bool
-        requires placed { IsPlaced self.now heap.now }
-        requires full { IsSome ((seen_if self.now.types heap.now).kind root) }
+        requires { IsPlaced self.now heap.now }
         ensures { result ≡ (seen_if self.now.types heap.now).was_registered root }
     {
         match &self.types {
@@ -91,8 +89,7 @@ impl Session {
 
     /// Whether the object in a slot has a P link.
     pub(crate) fn has_p_link(&self, heap: &Heap, root: u32) -> bool
-        requires placed { IsPlaced self.now heap.now }
-        requires full { IsSome ((seen_if self.now.types heap.now).kind root) }
+        requires { IsPlaced self.now heap.now }
         ensures { result ≡ (seen_if self.now.types heap.now).has_p_link root }
     {
         match &self.types {

@@ -7,9 +7,9 @@ use Rattle.session_core.proofs.session.Session.room_refusal.Goals as goal
 pub overflow_add-unsettled : goal.overflow_add-unsettled
 overflow_add-unsettled c =
     let few = few_words c.args.self.now.settings (subst AreInRange (ap (λ (s : SessionSeen). s.settings) c.self.view_is) c.self.invariant.0) in
-    omega (arith, few.0, few.1, c.unsettled_words-unsettled.ensures.nursery, c.fresh_words-fresh.ensures.limit)
+    omega (arith, few.0, few.1, c.unsettled_words-unsettled.ensures.limit, c.fresh_words-fresh.ensures.limit)
 
 pub overflow_add-unsettled-2 : goal.overflow_add-unsettled-2
 overflow_add-unsettled-2 c =
     let few = few_words c.args.self.now.settings (subst AreInRange (ap (λ (s : SessionSeen). s.settings) c.self.view_is) c.self.invariant.0) in
-    omega (arith, few.0, few.1, c.unsettled_words-unsettled.ensures.nursery, c.fresh_words-fresh.ensures.limit, c.requires.few)
+    omega (arith, few.0, few.1, c.unsettled_words-unsettled.ensures.limit, c.fresh_words-fresh.ensures.limit, c.requires.few)
