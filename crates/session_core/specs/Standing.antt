@@ -16,6 +16,8 @@ use Rattle.store_model.specs.Refusal.{refusal_seen}
 use Rattle.store_model.specs.Unbuilt.{Room, program_checks, program_refusal}
 use Rattle.store_model.specs.Transcript.{Group, ItemDoes, ItemExceeds, group_lines}
 use Rattle.heap_parts.specs.Parts.{HeapParts}
+use Rattle.heap_core.specs.declared.fault.HeapFault.{HeapFault}
+use Rattle.heap_core.specs.declared.fault.HeapFault.TheVariants.{Spent, OutOfMemory as NoMemory, HeapLimit as OverLimit}
 use Rattle.heap_core.specs.Heap.{HeapSeen, closed_heap, heap_of, StandsFor}
 use Rattle.heap_core.specs.Commands.{nothing_told, told_by, room_if, room_by, setup_in}
 use Rattle.session_core.specs.declared.session.RunFault.{RunFault}
@@ -138,6 +140,12 @@ pub record LeavesItem (session : SessionSeen) (heap : HeapSeen) (at : Progress) 
   pub next : Progress
   pub leaves : LeavesOff at item next
   pub stands : StandsAt session heap next
+
+-- how an item is not done for which a call of the heap failed; a session's heap is not spent
+abbrev pub fault_told : HeapFault → RunFault
+fault_told Spent = OutOfMemory
+fault_told NoMemory = OutOfMemory
+fault_told (OverLimit counted request limit) = HeapLimit counted request limit
 
 -- what a list held stands in front in it
 abbrev pub KeepsFront : List Line → List Line → Type 0

@@ -5,9 +5,8 @@ ghost use Rattle.object_model.specs.SettingRanges.{is_outside, ranges};
 ghost use Rattle.store_model.specs.Progress.{Progress};
 ghost use Rattle.object_model.specs.Setup.{defaults};
 ghost use Rattle.heap_core.specs.declared.fault.HeapFault.TheVariants.{Spent, OutOfMemory as NoMemory};
-ghost use Rattle.session_core.specs.declared.session.RunFault.TheVariants.{OutOfMemory};
 ghost use Rattle.session_core.specs.Seen.{SessionSeen};
-ghost use Rattle.session_core.specs.Standing.{IsPlaced, StandsAt, Answers, Sets, Adds, Begins, refusal_of};
+ghost use Rattle.session_core.specs.Standing.{IsPlaced, StandsAt, Answers, Sets, Adds, Begins, fault_told, refusal_of};
 
 use crate::commands::do_command;
 use crate::settings::with_setting;
@@ -60,11 +59,20 @@ impl<T: Drop> From<AllocFailed<T>> for RunFault {
 /// How an item is not done for which a call of the heap failed. A session's heap is not spent.
 fn run_fault(fault: HeapFault) -> RunFault
     requires { fault ≢ Spent }
-    ensures { result ≡ OutOfMemory }
+    ensures { result ≡ fault_told fault }
 {
     match fault {
         HeapFault::Spent => unreachable!(),
         HeapFault::OutOfMemory => RunFault::OutOfMemory,
+        HeapFault::HeapLimit {
+            counted,
+            request,
+            limit,
+        } => RunFault::HeapLimit {
+            counted,
+            request,
+            limit,
+        },
     }
 }
 
