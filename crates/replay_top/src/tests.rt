@@ -405,7 +405,7 @@ const ROWS: [Row; 49] = [
         script: b"type 1 fixed 0 0\nnew 0 1\nplink 7 0 plain 2\ncount 7\nfromobj 0\ntoobj 1 7\nsame 0 1\ninc 7\ndec 7\ndec 7\ncount 7\nnextdead\nolink 8 0 light 0\nplink 9 0 light 0\n",
         read_fails: &[],
         write_fails: &[],
-        out: b"new 1 young\ncount 6917529027641081858\nfromobj 7\ntoobj 1\nsame yes\ncount 6917529027641081857\nnextdead none\n",
+        out: b"new 1 young\ncount 2305843009213693954\nfromobj 7\ntoobj 1\nsame yes\ncount 2305843009213693953\nnextdead none\n",
         err: b"malformed: line 14: HasPLink\n",
         status: Status::Malformed,
     },
