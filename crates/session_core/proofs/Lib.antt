@@ -1,5 +1,6 @@
 pub mod Ranges
+pub mod Passing
 pub mod Looks
-pub mod Doing
+pub mod Performing
 pub mod Items
 pub mod Places

@@ -1,9 +1,9 @@
--- What stands when a run ends, by how it ends. The heap at its end is seen by the stores that it stands for.
+-- What stands when a run ends, by how it ends. The heap at its end is seen by what it stands for: settings and types, whether it was
+-- started, and the store.
 use Rattle.std.specs.Prelude.{◌≡◌, ℕ, ◌+◌, ◌<◌, List, [], ◌∷◌, ◌++◌, length, map, Option, Some, None, Ok, Err, ◌⊎◌}
 use Rattle.std.specs.Io.KnownBytes.{Appends, Consumes}
 use Rattle.text_model.specs.declared.item.Item.{Item}
 use Rattle.text_model.specs.declared.item.Reason.{Reason}
-use Rattle.store_model.specs.Store.{Store}
 use Rattle.store_model.specs.Progress.{Progress, at_start}
 use Rattle.store_model.specs.Refusal.{refusal}
 use Rattle.store_model.specs.Unbuilt.{program_refusal}
@@ -50,15 +50,15 @@ IsStop at k line =
     ⊎ ((counted request limit : ℕ) × (groups : List Group) × (after : Progress) × ExceedsLimit at k line counted request limit groups after)
 
 -- These lines are done, the text of a transcript of theirs was written, and the heap stands for its store.
-pub record Stands (lines : List (List ℕ)) (before written : Option (List ℕ)) (heap : Store → Type 0) : Type 0 where
+pub record Stands (lines : List (List ℕ)) (before written : Option (List ℕ)) (heap : Progress → Type 0) : Type 0 where
   pub after : Progress
   pub text : List ℕ
   pub done : IsDone lines text after
   pub appended : Appends before written text
-  pub store : heap after.store
+  pub stands_for : heap after
 
 -- The script is done to line k, which is refused for this reason.
-pub record StopsAt (script : List ℕ) (before written : Option (List ℕ)) (heap : Store → Type 0) (k : ℕ) (reason : Reason) : Type 0 where
+pub record StopsAt (script : List ℕ) (before written : Option (List ℕ)) (heap : Progress → Type 0) (k : ℕ) (reason : Reason) : Type 0 where
   pub front : List (List ℕ)
   pub line : List ℕ
   pub behind : List (List ℕ)
@@ -68,7 +68,7 @@ pub record StopsAt (script : List ℕ) (before written : Option (List ℕ)) (hea
   pub refused : IsRefused stands.after k line reason
 
 -- The script is done to line k, whose birth the limit refuses with these numbers. The lines of its collections are written too.
-pub record StopsAtLimit (script : List ℕ) (before written : Option (List ℕ)) (heap : Store → Type 0) (k counted request limit : ℕ) : Type 0 where
+pub record StopsAtLimit (script : List ℕ) (before written : Option (List ℕ)) (heap : Progress → Type 0) (k counted request limit : ℕ) : Type 0 where
   pub front : List (List ℕ)
   pub line : List ℕ
   pub behind : List (List ℕ)
@@ -81,16 +81,16 @@ pub record StopsAtLimit (script : List ℕ) (before written : Option (List ℕ))
   pub after : Progress
   pub exceeds : ExceedsLimit mid k line counted request limit groups after
   pub appended : Appends before written (text ++ transcript_text groups)
-  pub store : heap after.store
+  pub stands_for : heap after
 
--- The whole lines of the bytes that were taken are done. Where the file was not begun, none were taken.
-pub record StopsReading (script : List ℕ) (rest before written : Option (List ℕ)) (heap : Store → Type 0) : Type 0 where
+-- The whole lines of the bytes that were taken are done. None were taken where the file was not begun, as the counts of begun files tell.
+pub record StopsReading (script : List ℕ) (begun begun_after : Option ℕ) (rest before written : Option (List ℕ)) (heap : Progress → Type 0) : Type 0 where
   pub taken : List ℕ
-  pub begins : (taken ≡ []) ⊎ Consumes (Some script) rest taken
+  pub begins : ((begun_after ≡ begun) × (taken ≡ [])) ⊎ Consumes (Some script) rest taken
   pub stands : Stands (whole_lines_of taken) before written heap
 
 -- The script is done to some line and the next one too, taken or refused by the limit, whose text was not written whole.
-pub record StopsWriting (script : List ℕ) (before written : Option (List ℕ)) (heap : Store → Type 0) : Type 0 where
+pub record StopsWriting (script : List ℕ) (before written : Option (List ℕ)) (heap : Progress → Type 0) : Type 0 where
   pub front : List (List ℕ)
   pub line : List ℕ
   pub behind : List (List ℕ)
@@ -106,7 +106,7 @@ pub record StopsWriting (script : List ℕ) (before written : Option (List ℕ))
   pub parts : transcript_text groups ≡ part ++ cut
   pub some : 0 < length cut
   pub appended : Appends before written (text ++ part)
-  pub store : heap after.store
+  pub stands_for : heap after
 
 -- The script is done to some line, and the text of that is written.
 pub record StopsSomewhere (script : List ℕ) (before written : Option (List ℕ)) : Type 0 where
