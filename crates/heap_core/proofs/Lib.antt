@@ -8,3 +8,6 @@ pub mod LookLaws
 pub mod BirthLaws
 pub mod BearLaws
 pub mod UsageCalls
+pub mod FullSlots
+pub mod HomeTold
+pub mod IdentityCalls

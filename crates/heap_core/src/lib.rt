@@ -5,6 +5,7 @@ mod births;
 mod fault;
 mod fields;
 mod heap;
+mod identity;
 mod slots;
 mod tellers;
 mod usage;
