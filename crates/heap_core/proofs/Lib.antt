@@ -11,3 +11,5 @@ pub mod UsageCalls
 pub mod FullSlots
 pub mod HomeTold
 pub mod IdentityCalls
+pub mod PinReady
+pub mod PinCalls

@@ -2,3 +2,4 @@ pub mod Heap
 pub mod Commands
 pub mod Seen
 pub mod Bearing
+pub mod Pinning

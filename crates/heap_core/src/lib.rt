@@ -6,6 +6,7 @@ mod fault;
 mod fields;
 mod heap;
 mod identity;
+mod pinning;
 mod slots;
 mod tellers;
 mod usage;

@@ -1,7 +1,7 @@
 //! Objects of the nursery that may not move.
 ghost use Rattle.std.specs.Prelude.{◌≡◌, ◌==◌, ◌+◌, ◌-◌, ◌<◌, ◌^◌, IsTrue, OnOk, OnErr, position};
 ghost use Rattle.heap_space.specs.Places.{has};
-ghost use Rattle.store_model.specs.Identity.{pin_count as count_in, pinned_more, pinned_less};
+ghost use Rattle.store_model.specs.Identity.{pin_count as count_in, has_pin_room as has_room_in, pinned_more, pinned_less};
 ghost use Rattle.heap_parts.specs.Pins.{with_pin, without_pin};
 
 use crate::parts::Parts;
@@ -9,11 +9,16 @@ use object_header::{Flag, clear, set};
 use std::alloc::AllocError;
 
 impl Parts {
-    /// How many times the object at a place is pinned.
-    pub fn pin_count(&self, place: u64) -> u64
-        ensures { result ≡ count_in self.now.pins place }
+    /// Whether one pin more of the object at a place may be counted: an object has at most 65,535, and as many objects as
+    /// the setting `pins` says are pinned at once.
+    pub fn has_pin_room(&self, place: u64) -> bool
+        ensures { result ≡ has_room_in self.now.setup.settings.pins self.now.pins (count_in self.now.pins place) }
     {
-        count(&self.pins, place)
+        let n = count(&self.pins, place);
+        if n == 0 {
+            return (self.pins.len() as u64) < self.settings.pins;
+        }
+        n < 65_535
     }
 
     /// Pins the object at a place once more. The error is want of memory, and nothing changes then.
