@@ -13,3 +13,4 @@ pub mod HomeTold
 pub mod IdentityCalls
 pub mod PinReady
 pub mod PinCalls
+pub mod HomeReserved
