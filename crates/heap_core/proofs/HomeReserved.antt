@@ -1,17 +1,15 @@
 -- A home is reserved for an object of the nursery: a block is taken, and its first word tells what it is.
-use Rattle.std.proofs.Common.{◌≡◌, ◌≢◌, ℕ, ◌+◌, ◌%◌, ◌<◌, ◌≤◌, ◌⊎◌, Bool, true, false, IsTrue, List, [], ◌∷◌, ◌++◌, map, Option, Some, None, refl, sym, ap, ◌∙◌, subst, inl, inr, arith}
-use Rattle.std.specs.FinMap as map_of
+use Rattle.std.proofs.Common.{◌≡◌, ◌≢◌, ℕ, ◌≤◌, true, false, IsTrue, List, [], ◌∷◌, ◌++◌, map, Option, Some, None, refl, sym, ap, ◌∙◌, subst, inl, inr, arith}
 use Rattle.type_table.specs.Table.{value_at, with_value}
 use Rattle.heap_space.specs.Places.{has, with_word, word_at}
 use Rattle.heap_space.specs.Memory.{Memory}
 use Rattle.heap_space.specs.Extents.{Extent, Each, IsApart}
-use Rattle.object_header.specs.Words.{has_flag, with_flag, IsHeader}
+use Rattle.object_header.specs.Words.{has_flag, with_flag}
 use Rattle.object_header.specs.declared.flags.Flag.{Flag}
 use Rattle.object_header.specs.declared.flags.Flag.TheVariants.{Track, Visited, HasShadow, Pinned, HasCards, CardsSet, Free, Shadow, Order1, Order2}
 use Rattle.object_header.proofs.WordLaws.{has_flag-with_flag_same, has_flag-with_flag_other, type_of-with_flag, IsHeader-with_flag}
 use Rattle.object_view.proofs.WordLaws.{updated-here}
 use Rattle.object_view.proofs.SpaceLaws.{word_at-written, lies-at}
-use Rattle.object_view.proofs.LayoutLaws.{laid_out}
 use Rattle.old_space.specs.HasBlocks.{IsBlock, HasBlocks}
 use Rattle.old_space.proofs.JoinLaws.{HasBlocks-blocks, HasBlocks-apart, HasBlocks-first}
 use Rattle.object_model.specs.Sets.{is_in}
@@ -19,7 +17,7 @@ use Rattle.object_model.specs.ObjectWords.{words_at}
 use Rattle.store_model.specs.Store.{Store}
 use Rattle.store_model.specs.Identity.{TellsHome}
 use Rattle.heap_parts.specs.Parts.{HeapParts, word_in, place_in, home_in}
-use Rattle.heap_parts.specs.Births.{TakesBlock, with_old_blocks}
+use Rattle.heap_parts.specs.Births.{TakesBlock}
 use Rattle.heap_parts.specs.Headers.{IsYoungHeader, IsShadowHeader}
 use Rattle.heap_parts.specs.OldSpace.{blocks_of, reserved_blocks}
 use Rattle.heap_parts.specs.Places.{is_young, young_places, old_places, block_at}

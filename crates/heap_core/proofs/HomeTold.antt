@@ -1,6 +1,6 @@
 -- The homes of objects: which ones were told, and what telling them leaves.
 use Rattle.std.proofs.Common.{◌≡◌, ◌≢◌, ℕ, ◌+◌, ◌<◌, ◌⊎◌, Bool, true, false, cond, IsTrue, nat_eq, List, [], ◌∷◌, ◌++◌, map, Option, Some, None, refl, sym, ap, ◌∙◌, subst, inl, inr, arith}
-use Rattle.std.specs.Prelude.{IsFalse, ◌==◌, ◌||◌, not}
+use Rattle.std.specs.Prelude.{IsFalse, ◌==◌}
 use Rattle.std.specs.List.{IsDistinct, AllByRecursion}
 use Rattle.std.proofs.lemmas.Bool.{cases_Bool}
 use Rattle.std.proofs.lemmas.Bool.Decides.{eqb_tells, nat_tests}
@@ -11,10 +11,9 @@ use Rattle.rawref_links.proofs.Tables.{same_table, value_at-first, value_at-behi
 use Rattle.object_model.specs.Object.{Object}
 use Rattle.object_model.specs.Sets.{is_in}
 use Rattle.store_model.specs.Store.{Store}
-use Rattle.store_model.specs.Slots.{held}
 use Rattle.store_model.specs.Identity.{home_places, MayTell, TellsHome}
 use Rattle.heap_parts.specs.Parts.{HeapParts, word_in, place_in, home_in}
-use Rattle.heap_parts.specs.Places.{is_young, young_places, old_places}
+use Rattle.heap_parts.specs.Places.{is_young, old_places}
 use Rattle.heap_parts.specs.OldSpace.{husk_at}
 use Rattle.heap_parts.specs.StandsFor.{PartsStandFor}
 use Rattle.heap_parts.proofs.Members.{in-either}
@@ -121,7 +120,7 @@ settled_tells heap store root None s full old e =
     let t : IsTrue (is_in p (old_places s.places)) = is_in-old s.places p there old in (
       record store { homes = with_value store.homes (s.name p) p },
       new_tells heap store root p s full e (omega (arith, full))
-      (λ other f. let same = settled_home_free s p t other f in let none : value_at store.homes other ≡ None = ap (value_at store.homes) same ∙ e in let no : ⊥ = cc in no),
+          (λ other f. let same = settled_home_free s p t other f in let none : value_at store.homes other ≡ None = ap (value_at store.homes) same ∙ e in let no : ⊥ = cc in no),
       tell_settled_stands heap store p s t e,
     )
 settled_tells heap store root (Some at) s full old e =

@@ -1,5 +1,5 @@
 -- What calls on the identity of objects do.
-use Rattle.std.proofs.Common.{◌≡◌, ◌≢◌, ℕ, ◌<◌, ◌≤◌, Bool, true, false, [], ◌∷◌, Option, Some, None, refl, sym, ap, ◌∙◌, subst, arith}
+use Rattle.std.proofs.Common.{◌≡◌, ◌≢◌, ℕ, ◌<◌, ◌≤◌, Bool, true, false, [], ◌∷◌, Some, None, refl, sym, ap, ◌∙◌, subst, arith}
 use Rattle.std.specs.Prelude.{not}
 use Rattle.std.proofs.lemmas.Bool.Decides.{nat_tests}
 use Rattle.text_model.specs.declared.command.Command.TheVariants.{Place}
@@ -63,7 +63,7 @@ old_place_does heap root ready high =
           let tells = settled_tells heap store root (value_at store.homes (s.name (place_in heap root))) s full old refl in (
             tells.0,
             subst (λ (b : Bool). TellsPlace b store root (PlaceIs (Some (place_in heap root)) ∷ []) tells.0) (sym (is_settled-by heap store root s full ∙ ap not old))
-            (place_in heap root, tells.1, refl),
+                (place_in heap root, tells.1, refl),
             tells.2,
           );
     }

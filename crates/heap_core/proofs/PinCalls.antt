@@ -1,5 +1,5 @@
 -- What calls on pins do.
-use Rattle.std.proofs.Common.{◌≡◌, ◌≢◌, ℕ, ◌<◌, Bool, true, false, IsTrue, List, [], ◌∷◌, Option, Some, None, refl, sym, ap, ap₂, ◌∙◌, subst}
+use Rattle.std.proofs.Common.{◌≡◌, ◌≢◌, ℕ, ◌<◌, Bool, true, false, List, [], ◌∷◌, Option, Some, refl, sym, ap, ap₂, ◌∙◌}
 use Rattle.std.specs.Prelude.{not, ◌&&◌}
 use Rattle.text_model.specs.declared.command.Command.TheVariants.{Pin, Unpin}
 use Rattle.text_model.specs.declared.line.Line.TheVariants.{PinIs}
@@ -8,8 +8,8 @@ use Rattle.type_table.specs.Table.{Table}
 use Rattle.object_model.specs.Object.{Object}
 use Rattle.object_model.specs.ObjectWords.{info_at, object_from}
 use Rattle.store_model.specs.Store.{Store}
-use Rattle.store_model.specs.Slots.{held, object_in}
-use Rattle.store_model.specs.Identity.{can_pin, can_pin_birth, can_refer, pin_count, has_pin_room, pinned_with, pin_slot, unpin_slot, is_settled_in}
+use Rattle.store_model.specs.Slots.{held}
+use Rattle.store_model.specs.Identity.{can_pin, can_pin_birth, can_refer, pin_count, has_pin_room, pinned_with, unpin_slot, is_settled_in}
 use Rattle.store_model.specs.Steps.{Does}
 use Rattle.heap_parts.specs.Parts.{HeapParts, word_in, place_in}
 use Rattle.heap_parts.specs.Places.{is_young}

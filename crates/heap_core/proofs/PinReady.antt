@@ -1,6 +1,6 @@
 -- What is known of pins where a command on them is not refused.
-use Rattle.std.proofs.Common.{◌≡◌, ◌≢◌, ℕ, zero, suc, ◌+◌, ◌<◌, ◌≤◌, Bool, true, false, cond, IsTrue, nat_eq, nat_lt, List, [], ◌∷◌, map, length, Option, Some, None, refl, sym, ap, ◌∙◌, subst, inl, inr, arith}
-use Rattle.std.specs.Prelude.{not, ◌==◌, ◌&&◌, if◌then◌else◌}
+use Rattle.std.proofs.Common.{◌≡◌, ◌≢◌, ℕ, zero, suc, ◌<◌, ◌≤◌, Bool, true, false, IsTrue, nat_eq, nat_lt, List, [], ◌∷◌, map, length, refl, sym, ap, ◌∙◌, subst, inl, inr, arith}
+use Rattle.std.specs.Prelude.{not, ◌==◌, if◌then◌else◌}
 use Rattle.std.specs.List.{IsDistinct, AllByRecursion, All}
 use Rattle.std.proofs.lemmas.List.Elements.{All-head, All-tail}
 use Rattle.std.proofs.lemmas.Bool.{cases_Bool, eq-eqb, ne_eqb}
@@ -18,7 +18,7 @@ use Rattle.object_model.specs.ObjectWords.{words_at}
 use Rattle.heap_space.specs.Places.{has}
 use Rattle.store_model.specs.Store.{Store}
 use Rattle.store_model.specs.Identity.{pin_count, has_pin_room}
-use Rattle.heap_parts.specs.Parts.{HeapParts, word_in, place_in, pinned_places}
+use Rattle.heap_parts.specs.Parts.{HeapParts, word_in, place_in}
 use Rattle.heap_parts.specs.Places.{is_young}
 use Rattle.heap_parts.specs.Lists.{named_entries}
 use Rattle.heap_parts.specs.StandsFor.{PartsStandFor}
@@ -27,7 +27,7 @@ use Rattle.heap_parts.proofs.PlaceLaws.{is_in-young, is_in-old}
 use Rattle.heap_parts.proofs.StandLaws.{in_slot}
 use Rattle.heap_parts.proofs.BirthNames.{entries-names}
 use Rattle.heap_parts.proofs.PinLaws.{keys}
-use Rattle.heap_core.specs.Commands.{AreStanding, AreReady}
+use Rattle.heap_core.specs.Commands.{AreReady}
 use Rattle.heap_core.proofs.Ready.{passed}
 use Rattle.heap_core.proofs.FullSlots.{FullSlot, full_slot}
 

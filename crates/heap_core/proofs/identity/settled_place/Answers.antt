@@ -1,4 +1,4 @@
-use Rattle.std.proofs.Common.{◌≡◌, ◌≤◌, ◌<◌, ℕ, [], ◌∷◌, Option, Some, sym, ap, subst, arith}
+use Rattle.std.proofs.Common.{ℕ, [], ◌∷◌, Some, sym, subst}
 use Rattle.text_model.specs.declared.command.Command.TheVariants.{Place}
 use Rattle.text_model.specs.declared.line.Line.TheVariants.{PlaceIs}
 use Rattle.heap_parts.specs.Parts.{HeapParts, place_in}

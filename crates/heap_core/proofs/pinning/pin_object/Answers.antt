@@ -1,4 +1,4 @@
-use Rattle.std.proofs.Common.{ℕ, ◌<◌, IsTrue, true, false, [], ◌∷◌, sym, ap, ◌∙◌, subst}
+use Rattle.std.proofs.Common.{ℕ, ◌<◌, IsTrue, true, [], ◌∷◌, sym, ap, ◌∙◌, subst}
 use Rattle.text_model.specs.declared.command.Command.TheVariants.{Pin}
 use Rattle.text_model.specs.declared.line.Line.TheVariants.{PinIs}
 use Rattle.heap_space.specs.Places.{has}
