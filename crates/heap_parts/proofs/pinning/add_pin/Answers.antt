@@ -1,6 +1,5 @@
-use Rattle.std.proofs.Common.{◌≡◌, ◌==◌, ◌+◌, ◌-◌, ◌<◌, ◌≤◌, ℕ, List, [], ◌∷◌, ◌++◌, position, slice_index_or, slice_set, remove, Option, Some, None, Fits, w64, sym, ap, ◌∙◌, subst, arith}
-use Rattle.store_model.specs.Identity.{pin_count as count_in, pinned_more, pinned_less}
-use Rattle.heap_parts.proofs.PinIndex.{IsPinAt, IsUnpinned, pin_at, not_pinned, on_err, more-at, less-at, read-key, read-count}
+use Rattle.std.proofs.Common.{◌==◌, ℕ, List, [], ◌∷◌, ◌++◌, position, sym, ap, ◌∙◌, arith}
+use Rattle.heap_parts.proofs.PinIndex.{IsPinAt, pin_at, not_pinned, on_err, more-at, read-count}
 use Rattle.heap_parts.proofs.pinning.add_pin.Goals as goal
 
 pub returns-in_err-reserve-clause-err : goal.returns-in_err-reserve-clause-err

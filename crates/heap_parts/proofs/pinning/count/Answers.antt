@@ -1,5 +1,4 @@
-use Rattle.std.proofs.Common.{◌≡◌, ◌==◌, ◌+◌, ◌-◌, ◌<◌, ◌≤◌, ℕ, List, [], ◌∷◌, ◌++◌, position, slice_index_or, slice_set, Option, Some, None, Fits, w64, sym, ap, ◌∙◌, subst, arith}
-use Rattle.store_model.specs.Identity.{pin_count as count_in, pinned_more, pinned_less}
+use Rattle.std.proofs.Common.{sym, ◌∙◌}
 use Rattle.heap_parts.proofs.PinIndex.{pin_at, not_pinned}
 use Rattle.heap_parts.proofs.pinning.count.Goals as goal
 
