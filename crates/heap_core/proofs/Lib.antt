@@ -10,3 +10,9 @@ pub mod LookLaws
 pub mod BirthLaws
 pub mod BearLaws
 pub mod UsageCalls
+pub mod FullSlots
+pub mod HomeTold
+pub mod IdentityCalls
+pub mod PinReady
+pub mod PinCalls
+pub mod HomeReserved

@@ -3,3 +3,4 @@ pub mod Commands
 pub mod StructLines
 pub mod Seen
 pub mod Bearing
+pub mod Pinning

@@ -5,6 +5,8 @@ mod births;
 mod fault;
 mod fields;
 mod heap;
+mod identity;
+mod pinning;
 mod slots;
 mod structures;
 mod tellers;

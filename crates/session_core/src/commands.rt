@@ -25,11 +25,6 @@ pub(crate) fn do_command(
     match *command {
         Command::NewFixed { root, type_id } => heap.new_fixed(root, type_id, out),
         Command::NewArray { root, type_id, len } => heap.new_array(root, type_id, len, out),
-        Command::NewWeak {
-            root,
-            type_id,
-            target,
-        } => heap.new_weak(root, type_id, target, out),
         _ => {
             out.reserve(1)?;
             on_objects(heap, command, out)
@@ -61,13 +56,6 @@ fn on_objects(heap: &mut Heap, command: &Command, out: &mut Vec<Line>) -> Result
             out.push_reserved(Line::Loaded { birth });
             Ok(())
         }
-        Command::CopyRefs {
-            root,
-            item,
-            from,
-            from_item,
-            count,
-        } => heap.copy_refs(root, item, from, from_item, count),
         Command::MoveRoot { to, from } => heap.move_root(to, from),
         Command::DropRoot { root } => heap.drop_root(root),
         Command::Same { a, b } => {
@@ -84,7 +72,7 @@ fn on_objects(heap: &mut Heap, command: &Command, out: &mut Vec<Line>) -> Result
     }
 }
 
-/// The same of homes, pins, weak targets and finalizers.
+/// The same of where objects are, and of pins.
 fn on_identity(heap: &mut Heap, command: &Command, out: &mut Vec<Line>) -> Result<(), HeapFault>
     requires can { CanDo heap.old command.now }
     requires alive { heap.old.is_spent ≡ false }
@@ -96,16 +84,6 @@ fn on_identity(heap: &mut Heap, command: &Command, out: &mut Vec<Line>) -> Resul
     ensures cause { IfErr result (λ fault. fault ≡ OutOfMemory) }
 {
     match *command {
-        Command::Ident { root } => {
-            let place = heap.identity(root)?;
-            out.push_reserved(Line::IdentIs { place });
-            Ok(())
-        }
-        Command::Hash { root } => {
-            let value = heap.hash(root)?;
-            out.push_reserved(Line::HashIs { value });
-            Ok(())
-        }
         Command::Place { root } => {
             let place = heap.where_is(root)?;
             out.push_reserved(Line::PlaceIs { place });
@@ -117,17 +95,6 @@ fn on_identity(heap: &mut Heap, command: &Command, out: &mut Vec<Line>) -> Resul
             Ok(())
         }
         Command::Unpin { root } => heap.unpin(root),
-        Command::Deref { to, root } => {
-            let birth = heap.deref(to, root)?;
-            out.push_reserved(Line::Derefed { birth });
-            Ok(())
-        }
-        Command::Register { root, queue } => heap.register(root, queue),
-        Command::NextFinal { to, queue } => {
-            let birth = heap.next_final(to, queue)?;
-            out.push_reserved(Line::NextIs { birth });
-            Ok(())
-        }
         _ => on_structs(heap, command, out),
     }
 }
