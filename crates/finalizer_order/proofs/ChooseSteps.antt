@@ -1,5 +1,5 @@
 -- The choice as a whole.
-use Rattle.std.proofs.Common.{◌≡◌, ℕ, ◌+◌, ◌<◌, Bool, true, false, IsTrue, List, [], ◌∷◌, ◌++◌, map, Ok, Err, refl, sym, ap, ap₂, ◌∙◌, subst}
+use Rattle.std.proofs.Common.{◌≡◌, ℕ, ◌+◌, Bool, true, false, IsTrue, List, [], ◌∷◌, ◌++◌, map, Ok, Err, refl, ap, ap₂, ◌∙◌, subst}
 use Rattle.std.specs.Prelude.{Result, OnOk, is_ok, not, filter, if◌then◌else◌}
 use Rattle.std.specs.List.Sorted.{IsPermutation, IsNonDecreasing}
 use Rattle.type_table.specs.declared.info.TypeInfo.{TypeInfo}
@@ -7,11 +7,11 @@ use Rattle.type_table.specs.Table.{Table}
 use Rattle.heap_space.specs.Memory.{Memory}
 use Rattle.heap_space.specs.Places.{Placed, word_at}
 use Rattle.object_model.specs.Sets.{is_in}
-use Rattle.object_model.proofs.Members.{is_in-head, is_in-tail}
+use Rattle.object_view.proofs.WordLaws.{is_in-head, is_in-tail}
 use Rattle.finalizer_order.specs.declared.entry.Entry.{Entry}
 use Rattle.finalizer_order.specs.Finalizers.{Finalizers, places_of}
-use Rattle.finalizer_order.specs.Changes.{changed_at, visited_at}
-use Rattle.finalizer_order.specs.Choosing.{with_chosen, Chooses, Keeps}
+use Rattle.finalizer_order.specs.Changes.{changed_at}
+use Rattle.finalizer_order.specs.Choosing.{Chooses, Keeps}
 use Rattle.finalizer_order.specs.Passes.{is_ordered, settled_word, HasPassed, Settles}
 use Rattle.finalizer_order.proofs.Objects.{changed}
 use Rattle.finalizer_order.proofs.QueueLaws.{view_of}

@@ -1,25 +1,22 @@
 -- Objects that get a flag.
-use Rattle.std.proofs.Common.{◌≡◌, ◌≢◌, ℕ, ◌+◌, ◌<◌, ◌≤◌, Bool, true, false, IsTrue, ◌⊎◌, List, [], ◌∷◌, ◌++◌, length, set, get_or, take, nat_eq, refl, sym, ap, ap₂, ◌∙◌, subst, inl, inr, arith}
+use Rattle.std.proofs.Common.{◌≡◌, ◌≢◌, ℕ, ◌+◌, ◌<◌, ◌≤◌, Bool, true, false, IsTrue, ◌⊎◌, List, [], ◌∷◌, ◌++◌, length, set, get_or, nat_eq, refl, sym, ap, ◌∙◌, subst, inl, inr, arith}
 use Rattle.std.specs.Prelude.{◌%◌, ◌-◌, not, ◌&&◌, ◌||◌, nat_lt, sum_by, if◌then◌else◌}
 use Rattle.std.specs.List.{IsDistinct}
 use Rattle.std.proofs.lemmas.Bool.{cases_Bool}
 use Rattle.std.proofs.lemmas.List.Sums.{sum_by-cons, sum_by-set}
-use Rattle.type_table.specs.declared.info.TypeInfo.{TypeInfo}
-use Rattle.type_table.specs.Table.{Table}
 use Rattle.heap_space.specs.Memory.{Memory}
 use Rattle.heap_space.specs.Places.{Placed, covers, has, word_at, written, with_word}
 use Rattle.heap_space.proofs.Blocks.{covers-inside, has-with_word, word_at-elsewhere}
-use Rattle.object_header.specs.Words.{has_flag, with_flag, without_flag}
+use Rattle.object_header.specs.Words.{has_flag, with_flag}
 use Rattle.object_header.specs.declared.flags.Flag.{Flag}
-use Rattle.object_header.specs.declared.flags.Flag.TheVariants.{Visited, Order1, Order2}
+use Rattle.object_header.specs.declared.flags.Flag.TheVariants.{Visited}
 use Rattle.object_header.proofs.WordLaws.{has_flag-with_flag_same, has_flag-with_flag_other, type_of-with_flag}
 use Rattle.object_model.specs.Sets.{is_in}
-use Rattle.object_model.proofs.Members.{is_in-head, is_in-tail, is_in-cases, is_in-nil}
-use Rattle.finalizer_order.specs.Unvisited.{is_unvisited, leads_on, Reaches, AreWhole}
-use Rattle.finalizer_order.specs.Changes.{changed_at}
+use Rattle.object_view.proofs.WordLaws.{is_in-head, is_in-tail, is_in-nil}
+use Rattle.finalizer_order.specs.Unvisited.{is_unvisited}
 use Rattle.finalizer_order.specs.Marking.{is_unmarked, met, marked_at, Marks}
 use Rattle.finalizer_order.proofs.Changes.{has-changed, changed-append, lasting, keeps-changed, untouched, touched}
-use Rattle.finalizer_order.proofs.Lists.{clash, in-either, in-one, distinct-nil, distinct-cons, distinct-append, distinct-tail, take-one, in-get}
+use Rattle.finalizer_order.proofs.Lists.{clash, in-either, in-one, distinct-nil, distinct-cons, distinct-append, distinct-tail}
 use Rattle.finalizer_order.proofs.Objects.{changed, both, first, second, not_true, not_false, behind}
 
 -- the flag as a change of a word

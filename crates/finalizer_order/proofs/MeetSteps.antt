@@ -1,29 +1,26 @@
 -- The turns of the loops that mark what an object leads to.
-use Rattle.std.proofs.Common.{◌≡◌, ◌≢◌, ℕ, zero, suc, ◌+◌, ◌-◌, ◌<◌, ◌≤◌, Bool, true, false, IsTrue, ◌⊎◌, List, [], ◌∷◌, ◌++◌, length, get_or, take, nat_eq, refl, sym, ap, ap₂, ◌∙◌, subst, inl, inr, arith, add-one, append_assoc, length-append}
-use Rattle.std.specs.Prelude.{◌&&◌, not}
-use Rattle.std.proofs.lemmas.Bool.{cases_Bool, cases_lt}
+use Rattle.std.proofs.Common.{◌≡◌, ◌≢◌, ℕ, zero, suc, ◌+◌, ◌-◌, ◌<◌, ◌≤◌, true, IsTrue, List, [], ◌∷◌, ◌++◌, length, get_or, take, refl, sym, ap, ◌∙◌, subst, inl, inr, arith, append_assoc, length-append}
+use Rattle.std.proofs.lemmas.Bool.{cases_lt}
 use Rattle.std.proofs.lemmas.List.{take-append-le, append-nil}
 use Rattle.type_table.specs.declared.info.TypeInfo.{TypeInfo}
 use Rattle.type_table.specs.Table.{Table}
 use Rattle.heap_space.specs.Memory.{Memory}
-use Rattle.heap_space.specs.Places.{Placed, has, word_at}
+use Rattle.heap_space.specs.Places.{has, word_at}
 use Rattle.object_header.specs.Words.{has_flag}
 use Rattle.object_header.specs.declared.flags.Flag.{Flag}
 use Rattle.object_header.specs.declared.flags.Flag.TheVariants.{Visited}
 use Rattle.object_model.specs.Sets.{is_in}
-use Rattle.object_model.specs.ObjectWords.{words_from, layout_at, words_at}
+use Rattle.object_model.specs.ObjectWords.{words_from, layout_at}
 use Rattle.object_view.specs.declared.fields.ObjView.{ObjView}
-use Rattle.object_view.specs.Views.{HasView, view_at}
+use Rattle.object_view.specs.Views.{HasView}
 use Rattle.object_view.proofs.LayoutLaws.{laid_out}
-use Rattle.object_view.proofs.WordLaws.{length-words_from, get_or-words_from}
-use Rattle.object_model.proofs.Members.{is_in-head, is_in-tail, is_in-cases, is_in-nil}
+use Rattle.object_view.proofs.WordLaws.{is_in-head, is_in-tail, is_in-cases, is_in-nil, length-words_from, get_or-words_from}
 use Rattle.finalizer_order.specs.Unvisited.{refs_at, is_unvisited, leads_on, Reaches, AreWhole}
-use Rattle.finalizer_order.specs.Changes.{changed_at}
-use Rattle.finalizer_order.specs.Marking.{is_unmarked, met, marked_at, Marks, MeetsRefs, AreClosed, MarksFrom}
+use Rattle.finalizer_order.specs.Marking.{met, marked_at, Marks, MeetsRefs, AreClosed, MarksFrom}
 use Rattle.finalizer_order.proofs.Changes.{has-changed, lies-changed}
-use Rattle.finalizer_order.proofs.Lists.{clash, in-get, in-either, in-left, in-right, in-one, take-one}
-use Rattle.finalizer_order.proofs.Objects.{changed, both, behind, self-reaches, step-reaches, joins-reaches, along, leads-ref, leads-unvisited, step-place, reach-place, has-place, words-kept, whole-kept, refs-kept, unvisited-kept, leads-kept}
-use Rattle.finalizer_order.proofs.Marks.{on, on-type, on-visited, flag-lasts, flag-set, flag-cases, unmarked-unvisited, unvisited-marked, marks_none, marks_met, met-flag, met-is, marks_append, marks_less, unmarked-before, words_without}
+use Rattle.finalizer_order.proofs.Lists.{in-get, in-either, in-one, take-one}
+use Rattle.finalizer_order.proofs.Objects.{changed, both, behind, self-reaches, step-reaches, joins-reaches, along, leads-ref, leads-unvisited, reach-place, has-place, words-kept, whole-kept, refs-kept, leads-kept}
+use Rattle.finalizer_order.proofs.Marks.{on, on-type, on-visited, flag-lasts, flag-cases, unmarked-unvisited, unvisited-marked, marks_none, marks_met, met-flag, met-is, marks_append, marks_less, words_without}
 
 -- words of a run
 

@@ -1,14 +1,13 @@
 -- Objects stay as they are where first words change and keep their types.
-use Rattle.std.proofs.Common.{◌≡◌, ℕ, ◌+◌, ◌<◌, ◌≤◌, Bool, true, false, IsTrue, List, [], ◌∷◌, ◌++◌, refl, sym, ap, ap₂, ◌∙◌, subst, inl, inr, arith}
+use Rattle.std.proofs.Common.{◌≡◌, ℕ, ◌+◌, ◌<◌, Bool, true, false, IsTrue, List, [], ◌∷◌, ◌++◌, refl, sym, ap, ap₂, ◌∙◌, subst, inl, inr, arith}
 use Rattle.std.specs.Prelude.{◌%◌, not, ◌&&◌, nat_lt, IsSome}
 use Rattle.std.proofs.lemmas.Bool.{cases_Bool}
 use Rattle.std.proofs.lemmas.Bool.Decides.{nat_tests}
 use Rattle.type_table.specs.declared.info.TypeInfo.{TypeInfo}
 use Rattle.type_table.specs.Table.{Table, value_at}
 use Rattle.heap_space.specs.Memory.{Memory}
-use Rattle.heap_space.specs.Places.{Placed, has, word_at, lies_in_one}
-use Rattle.heap_space.specs.Order.{IsInOrder}
-use Rattle.object_header.specs.Words.{has_flag, with_flag}
+use Rattle.heap_space.specs.Places.{has, word_at, lies_in_one}
+use Rattle.object_header.specs.Words.{has_flag}
 use Rattle.object_header.specs.declared.flags.Flag.TheVariants.{Visited}
 use Rattle.object_model.specs.Layout.{Layout}
 use Rattle.object_model.specs.Sets.{is_in}
@@ -16,12 +15,11 @@ use Rattle.object_model.specs.ObjectWords.{words_from, type_id_at, layout_at, wo
 use Rattle.object_view.specs.Views.{HasObject}
 use Rattle.object_view.proofs.LayoutLaws.{laid_out, layout_at-same}
 use Rattle.object_view.proofs.WordLaws.{words_from-same}
-use Rattle.object_model.proofs.Members.{is_in-head, is_in-cases, is_in-nil}
 use Rattle.object_view.proofs.SpaceLaws.{lies-at}
 use Rattle.finalizer_order.specs.Paths.{Leads}
 use Rattle.finalizer_order.specs.Unvisited.{refs_at, is_unvisited, leads_on, Reaches, AreWhole}
 use Rattle.finalizer_order.specs.Changes.{changed_at}
-use Rattle.finalizer_order.proofs.Changes.{has-changed, lies-changed, keeps-changed, untouched}
+use Rattle.finalizer_order.proofs.Changes.{lies-changed, keeps-changed, untouched}
 
 -- the memory after the change
 abbrev pub changed : (ℕ → ℕ) → List ℕ → Memory → Memory

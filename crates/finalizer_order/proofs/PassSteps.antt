@@ -1,26 +1,26 @@
 -- The turns of the two passes over the dying objects.
-use Rattle.std.proofs.Common.{◌≡◌, ◌≢◌, ℕ, ◌+◌, ◌<◌, Bool, true, false, IsTrue, ◌⊎◌, List, [], ◌∷◌, ◌++◌, nat_eq, refl, sym, ap, ap₂, ◌∙◌, subst, inl, inr, arith, append_assoc}
-use Rattle.std.specs.Prelude.{◌&&◌, not, nat_lt, filter, cond}
+use Rattle.std.proofs.Common.{◌≡◌, ◌≢◌, ℕ, ◌<◌, Bool, true, false, IsTrue, ◌⊎◌, List, [], ◌∷◌, ◌++◌, sym, ap, ◌∙◌, subst, inl, inr, append_assoc}
+use Rattle.std.specs.Prelude.{filter, cond}
 use Rattle.std.proofs.lemmas.Bool.{cases_Bool}
 use Rattle.std.proofs.lemmas.List.{append-nil}
 use Rattle.std.proofs.lemmas.List.Elements.{filter-append}
 use Rattle.type_table.specs.declared.info.TypeInfo.{TypeInfo}
 use Rattle.type_table.specs.Table.{Table}
 use Rattle.heap_space.specs.Memory.{Memory}
-use Rattle.heap_space.specs.Places.{Placed, has, word_at}
+use Rattle.heap_space.specs.Places.{has, word_at}
 use Rattle.object_header.specs.Words.{has_flag}
 use Rattle.object_header.specs.declared.flags.Flag.{Flag}
 use Rattle.object_header.specs.declared.flags.Flag.TheVariants.{Visited, Order1, Order2}
 use Rattle.object_model.specs.Sets.{is_in}
-use Rattle.object_model.proofs.Members.{is_in-head, is_in-tail, is_in-cases, is_in-nil, filter-part, filter-member}
-use Rattle.finalizer_order.specs.Unvisited.{refs_at, is_unvisited, leads_on, Reaches, AreWhole, AreUnvisited}
-use Rattle.finalizer_order.specs.Changes.{changed_at}
-use Rattle.finalizer_order.specs.Marking.{is_unmarked, marked_at, Marks, AreClosed, MarksFrom}
-use Rattle.finalizer_order.specs.Passes.{CanPass, FromOne, MarksAll, NoneLeadsLater, AreCandidates, AreFound, unvisited_of, PassesFirst, PassesSecond}
+use Rattle.object_view.proofs.WordLaws.{is_in-head, is_in-tail, is_in-cases, is_in-nil}
+use Rattle.object_view.proofs.SurvivorLaws.{filter-part}
+use Rattle.finalizer_order.specs.Unvisited.{is_unvisited, Reaches, AreWhole, AreUnvisited}
+use Rattle.finalizer_order.specs.Marking.{is_unmarked, Marks, AreClosed, MarksFrom}
+use Rattle.finalizer_order.specs.Passes.{CanPass, FromOne, MarksAll, NoneLeadsLater, AreCandidates, unvisited_of, PassesFirst, PassesSecond}
 use Rattle.finalizer_order.proofs.Changes.{has-changed}
 use Rattle.finalizer_order.proofs.Lists.{clash, in-either, in-left, in-right, in-one}
-use Rattle.finalizer_order.proofs.Objects.{changed, behind, self-reaches, step-reaches, joins-reaches, reach-place, has-place, unvisited-place, whole-kept, reaches-after, reaches-before, leads-kept}
-use Rattle.finalizer_order.proofs.Marks.{on, on-type, on-visited, flag-lasts, flag-set, flag-cases, unmarked-unvisited, unmarked-clear, unmarked-of, marked-of, unvisited-marked, marks_none, marks_append}
+use Rattle.finalizer_order.proofs.Objects.{self-reaches, step-reaches, joins-reaches, reach-place, has-place, unvisited-place, whole-kept, reaches-after, reaches-before}
+use Rattle.finalizer_order.proofs.Marks.{on, on-type, on-visited, flag-set, flag-cases, unmarked-unvisited, unmarked-clear, marked-of, unvisited-marked, marks_none, marks_append}
 use Rattle.finalizer_order.proofs.Candidates.{no_candidates, candidates_stay, candidates_grow, none_found, found_stay, found_grow}
 
 module _ {flag : Flag} {types : Table TypeInfo} {nursery : ℕ} {old : Memory} {all_starts : List ℕ} (can : CanPass flag old types nursery all_starts) (ne : flag ≢ Visited) where

@@ -1,6 +1,5 @@
 -- The chosen objects enter their queues, one after the other.
-use Rattle.std.proofs.Common.{◌≡◌, ℕ, zero, suc, ◌+◌, ◌<◌, List, [], ◌∷◌, ◌++◌, length, set, get_or, take, map, reverse, refl, sym, ap, ap₂, ◌∙◌, subst, arith, append_assoc}
-use Rattle.std.specs.Prelude.{flat_map}
+use Rattle.std.proofs.Common.{◌≡◌, ℕ, ◌+◌, ◌<◌, List, [], ◌∷◌, ◌++◌, length, set, get_or, take, reverse, refl, sym, ap, ◌∙◌, subst, arith, append_assoc}
 use Rattle.std.proofs.lemmas.List.{get_or_default, append-nil, map-append, reverse-append, reverse-reverse}
 use Rattle.finalizer_order.specs.declared.entry.Entry.{Entry}
 use Rattle.finalizer_order.specs.Finalizers.{places_of, placed}

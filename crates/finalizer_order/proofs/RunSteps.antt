@@ -1,32 +1,32 @@
 -- What all passes together leave.
-use Rattle.std.proofs.Common.{◌≡◌, ◌≢◌, ℕ, ◌+◌, ◌<◌, ◌≤◌, Bool, true, false, IsTrue, ◌⊎◌, ◌==◌, List, [], ◌∷◌, ◌++◌, map, nat_eq, refl, sym, ap, ap₂, ◌∙◌, subst, inl, inr, arith}
-use Rattle.std.specs.Prelude.{◌&&◌, ◌||◌, not, nat_lt, filter, IsFalse, ◌↔◌}
+use Rattle.std.proofs.Common.{◌≡◌, ◌≢◌, ℕ, ◌+◌, ◌<◌, Bool, true, false, IsTrue, ◌⊎◌, ◌==◌, List, [], ◌∷◌, refl, sym, ap, ◌∙◌, subst, inl, inr, arith}
+use Rattle.std.specs.Prelude.{◌&&◌, ◌||◌, not, nat_lt, filter, ◌↔◌}
 use Rattle.std.proofs.lemmas.Bool.{cases_Bool}
 use Rattle.std.proofs.lemmas.Bool.Decides.{eqb_tells, nat_tests}
 use Rattle.type_table.specs.declared.info.TypeInfo.{TypeInfo}
 use Rattle.type_table.specs.Table.{Table}
 use Rattle.heap_space.specs.Memory.{Memory}
-use Rattle.heap_space.specs.Places.{Placed, has, word_at, lies_in_one}
+use Rattle.heap_space.specs.Places.{has, word_at, lies_in_one}
 use Rattle.object_header.specs.Words.{has_flag, with_flag, without_flag}
-use Rattle.object_header.specs.declared.flags.Flag.{Flag}
 use Rattle.object_header.specs.declared.flags.Flag.TheVariants.{Visited, Order1, Order2}
-use Rattle.object_header.proofs.WordLaws.{has_flag-without_flag_same, has_flag-without_flag_other, type_of-without_flag}
+use Rattle.object_header.proofs.WordLaws.{has_flag-without_flag_same, has_flag-without_flag_other}
 use Rattle.object_model.specs.Sets.{is_in}
 use Rattle.object_model.specs.ObjectWords.{words_at}
 use Rattle.object_view.proofs.LayoutLaws.{laid_out}
 use Rattle.object_view.proofs.InitLaws.{lies-part}
-use Rattle.object_model.proofs.Members.{is_in-head, is_in-tail, is_in-cases, is_in-nil, map-same, filter-part, filter-member}
-use Rattle.finalizer_order.specs.Unvisited.{is_unvisited, Reaches, AreWhole, AreUnvisited}
+use Rattle.object_view.proofs.WordLaws.{is_in-head, is_in-tail, map-same}
+use Rattle.object_view.proofs.SurvivorLaws.{filter-part, filter-member}
+use Rattle.finalizer_order.specs.Unvisited.{is_unvisited, Reaches, AreUnvisited}
 use Rattle.finalizer_order.specs.Changes.{changed_at, visited_at}
 use Rattle.finalizer_order.specs.Choosing.{is_dying, stands_before, IsChosen, IsKept, CanChoose}
 use Rattle.finalizer_order.specs.Marking.{marked_at}
-use Rattle.finalizer_order.specs.Passes.{CanPass, FromOne, MarksAll, NoneLeadsLater, AreCandidates, AreFound, unvisited_of, PassesFirst, PassesSecond, is_ordered, settled_word, HaveHeads, HasPassed}
+use Rattle.finalizer_order.specs.Passes.{CanPass, FromOne, NoneLeadsLater, AreFound, unvisited_of, PassesFirst, PassesSecond, is_ordered, settled_word, HasPassed}
 use Rattle.finalizer_order.proofs.Changes.{has-changed, lies-changed, keeps-changed, untouched, touched, absorbs, agree}
 use Rattle.finalizer_order.proofs.Lists.{clash}
-use Rattle.finalizer_order.proofs.Objects.{changed, both, first, second, not_true, not_false, behind, self-reaches, joins-reaches, reach-place, has-place, unvisited-place, whole-kept, reaches-after, reaches-before, unvisited-kept}
+use Rattle.finalizer_order.proofs.Objects.{changed, both, first, second, not_true, not_false, behind, self-reaches, joins-reaches, has-place, unvisited-place, whole-kept, reaches-after, reaches-before}
 use Rattle.finalizer_order.proofs.Marks.{on, on-type, on-visited, flag-set, flag-cases, other-flag, unvisited-marked}
-use Rattle.finalizer_order.proofs.Candidates.{front-other, first-none, front-in, found_gives_way, found_all}
-use Rattle.finalizer_order.proofs.PassSteps.{flagged-in, in-flagged, marked-place}
+use Rattle.finalizer_order.proofs.Candidates.{front-other, first-none, found_gives_way, found_all}
+use Rattle.finalizer_order.proofs.PassSteps.{marked-place}
 use Rattle.finalizer_order.proofs.FlagWords.{settles-off1, settles-on1, settles-on2, settles-clear, clear-visited, IsClear}
 
 -- a weaker way to lead

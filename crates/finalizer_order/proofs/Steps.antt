@@ -1,5 +1,5 @@
 -- One turn of a loop that changes first words.
-use Rattle.std.proofs.Common.{◌≡◌, ℕ, ◌+◌, ◌<◌, ◌≤◌, ◌^◌, IsTrue, true, false, List, [], ◌∷◌, ◌++◌, length, get_or, take, map, refl, sym, ap, ◌∙◌, subst, inl, inr, arith, append_assoc}
+use Rattle.std.proofs.Common.{◌≡◌, ℕ, ◌+◌, ◌<◌, ◌^◌, IsTrue, false, List, [], ◌∷◌, ◌++◌, length, get_or, take, map, refl, sym, ap, ◌∙◌, subst, inl, inr, arith, append_assoc}
 use Rattle.std.proofs.lemmas.Bool.{cases_Bool}
 use Rattle.std.proofs.lemmas.List.{map-append}
 use Rattle.heap_space.specs.Order.{IsInOrder}
@@ -11,7 +11,6 @@ use Rattle.object_model.specs.Sets.{is_in}
 use Rattle.finalizer_order.specs.Changes.{changed_at}
 use Rattle.finalizer_order.proofs.Changes.{has-changed, changed-append, untouched}
 use Rattle.finalizer_order.proofs.Lists.{take-one, in-get, in-taken, clash}
-use Rattle.object_model.proofs.Members.{is_in-nil}
 use Rattle.finalizer_order.proofs.Objects.{changed}
 
 pub has_next : (f : ℕ → ℕ) (ps : List ℕ) (i : ℕ) (m now : Memory) → ((p : ℕ) → IsTrue (is_in p ps) → IsTrue (has m.blocks p)) → i < length ps → now ≡ changed f (take i ps) m

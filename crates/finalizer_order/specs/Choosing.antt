@@ -1,5 +1,5 @@
 -- Which objects are chosen once marking is over, and which are kept for them.
-use Rattle.std.specs.Prelude.{◌≡◌, ◌≢◌, ℕ, ◌+◌, Bool, false, ◌==◌, not, ◌&&◌, IsTrue, IsFalse, ◌↔◌, nat_eq, List, [], ◌∷◌, ◌++◌, map, filter, take_while}
+use Rattle.std.specs.Prelude.{◌≡◌, ◌≢◌, ℕ, ◌+◌, Bool, false, ◌==◌, not, ◌&&◌, IsTrue, IsFalse, ◌↔◌, nat_eq, List, ◌++◌, map, filter, take_while}
 use Rattle.std.specs.List.{IsDistinct}
 use Rattle.std.specs.List.Sorted.{IsPermutation, IsNonDecreasing}
 use Rattle.type_table.specs.declared.info.TypeInfo.{TypeInfo}

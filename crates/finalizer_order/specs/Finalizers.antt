@@ -1,6 +1,6 @@
 -- Objects with finalizers, from their registration until they leave their queues.
-use Rattle.std.specs.Prelude.{ℕ, Bool, List, [], ◌∷◌, ◌++◌, Option, None, Some, map, flat_map}
-use Rattle.type_table.specs.Table.{Table, value_at, with_value, without_key}
+use Rattle.std.specs.Prelude.{ℕ, Bool, List, [], ◌∷◌, ◌++◌, map, flat_map}
+use Rattle.type_table.specs.Table.{Table}
 use Rattle.object_model.specs.Sets.{is_in}
 use Rattle.finalizer_order.specs.declared.entry.Entry.{Entry}
 

@@ -1,5 +1,5 @@
 -- A registered object moves.
-use Rattle.std.specs.Prelude.{◌≡◌, ℕ, ◌⊎◌, IsFalse, List, Option, Some, slice_get, slice_set}
+use Rattle.std.specs.Prelude.{◌≡◌, ℕ, ◌⊎◌, IsFalse, List, Some, slice_get, slice_set}
 use Rattle.object_model.specs.Sets.{is_in}
 use Rattle.finalizer_order.specs.declared.entry.Entry.{Entry}
 use Rattle.finalizer_order.specs.Finalizers.{places_of}

@@ -2,7 +2,6 @@
 use Rattle.std.specs.Prelude.{ℕ, ◌+◌, ◌<◌, List, [], ◌∷◌, ◌++◌, Option, None, Some, unwrap_or, option_map, slice_set, slice_index_or, flat_map}
 use Rattle.type_table.specs.Table.{Table, value_at, with_value, without_key}
 use Rattle.finalizer_order.specs.declared.entry.Entry.{Entry}
-use Rattle.finalizer_order.specs.Finalizers.{Finalizers}
 
 -- the first of a queue, if it is there
 abbrev pub first_of : Option (List Entry) → Option Entry

@@ -1,4 +1,4 @@
-use Rattle.std.proofs.Common.{◌≡◌, List, ℕ, set, nat_eq, get_or, refl, sym, ap, ◌∙◌, subst, inl}
+use Rattle.std.proofs.Common.{List, set, nat_eq, refl, sym, ap, ◌∙◌, subst, inl}
 use Rattle.std.specs.Prelude.{option_map, slice_get}
 use Rattle.indexmap.specs.IndexSet.{contains}
 use Rattle.finalizer_order.specs.declared.entry.Entry.{Entry}

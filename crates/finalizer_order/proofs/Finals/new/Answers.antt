@@ -1,4 +1,4 @@
-use Rattle.std.proofs.Common.{◌≡◌, [], List, ℕ, nat_eq, sym, ap, ap₂, ◌∙◌, subst}
+use Rattle.std.proofs.Common.{[], List, nat_eq, sym, ap, ap₂, ◌∙◌, subst}
 use Rattle.std.specs.List.{list_any}
 use Rattle.indexmap.specs.IndexSet.{contains}
 use Rattle.finalizer_order.specs.declared.entry.Entry.{Entry}

@@ -1,4 +1,4 @@
-use Rattle.std.proofs.Common.{sym, ap, ◌∙◌}
+use Rattle.std.proofs.Common.{ap, ◌∙◌}
 use Rattle.finalizer_order.specs.Finalizers.{Finalizers, is_listed}
 use Rattle.finalizer_order.proofs.Listing.{listed_is}
 use Rattle.finalizer_order.proofs.Finals.was_registered.Goals as goal

@@ -1,5 +1,5 @@
-use Rattle.std.proofs.Common.{get_or, sym, ap, ◌∙◌, arith}
-use Rattle.heap_space.specs.Places.{word_at, with_word}
+use Rattle.std.proofs.Common.{get_or, ap, ◌∙◌, arith}
+use Rattle.heap_space.specs.Places.{with_word}
 use Rattle.finalizer_order.specs.Passes.{settled_word}
 use Rattle.finalizer_order.proofs.Steps.{has_next, changes_next, head-has, head-fits, birth-has, births_next}
 use Rattle.finalizer_order.proofs.passes.visit_all.Goals as goal
