@@ -1,4 +1,4 @@
-use Rattle.std.proofs.Common.{◌≡◌, ℕ, true, false, refl, sym, ap, ◌∙◌, subst, arith}
+use Rattle.std.proofs.Common.{◌≡◌, ℕ, sym, ap, ◌∙◌, subst, arith}
 use Rattle.heap_space.specs.Places.{has, word_at}
 use Rattle.heap_space.specs.Memory.{Memory}
 use Rattle.heap_space.proofs.Blocks.{has-with_word, word_at-elsewhere}
