@@ -5,7 +5,7 @@ use Rattle.std.proofs.lemmas.Bool.{cases_Bool, eq-eqb, ne_eqb}
 use Rattle.std.proofs.lemmas.Bool.Decides.{eqb_tells}
 use Rattle.std.proofs.lemmas.List.Sums.{take_while-cons}
 use Rattle.object_model.specs.Sets.{is_in}
-use Rattle.object_view.proofs.WordLaws.{is_in-head, is_in-tail, is_in-cases, is_in-nil}
+use Rattle.object_model.proofs.Members.{is_in-head, is_in-tail, is_in-cases, is_in-nil}
 use Rattle.finalizer_order.specs.Choosing.{stands_before}
 use Rattle.finalizer_order.specs.Passes.{FromOne, NoneLeadsLater, AreCandidates, AreFound}
 use Rattle.finalizer_order.proofs.Lists.{in-left, in-right, in-either, in-one, clash}

@@ -6,7 +6,7 @@ use Rattle.std.proofs.lemmas.List.{set-set, set_comm}
 use Rattle.heap_space.specs.Places.{Placed, covers, has, word_at, written, with_word, lies_in_one}
 use Rattle.heap_space.proofs.Blocks.{has-with_word, word_at-elsewhere, word_at-here, word_at-none, lies-with_word, covers-written, covers-inside}
 use Rattle.object_model.specs.Sets.{is_in}
-use Rattle.object_view.proofs.WordLaws.{is_in-head, is_in-tail, is_in-cases, is_in-nil}
+use Rattle.object_model.proofs.Members.{is_in-head, is_in-tail, is_in-cases, is_in-nil}
 use Rattle.finalizer_order.specs.Changes.{changed_at}
 
 pub has-changed : (f : ℕ → ℕ) (ps : List ℕ) (bs : List Placed) (a : ℕ) → has (changed_at f ps bs) a ≡ has bs a

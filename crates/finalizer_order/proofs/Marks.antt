@@ -12,7 +12,7 @@ use Rattle.object_header.specs.declared.flags.Flag.{Flag}
 use Rattle.object_header.specs.declared.flags.Flag.TheVariants.{Visited}
 use Rattle.object_header.proofs.WordLaws.{has_flag-with_flag_same, has_flag-with_flag_other, type_of-with_flag}
 use Rattle.object_model.specs.Sets.{is_in}
-use Rattle.object_view.proofs.WordLaws.{is_in-head, is_in-tail, is_in-nil}
+use Rattle.object_model.proofs.Members.{is_in-head, is_in-tail, is_in-nil}
 use Rattle.finalizer_order.specs.Unvisited.{is_unvisited}
 use Rattle.finalizer_order.specs.Marking.{is_unmarked, met, marked_at, Marks}
 use Rattle.finalizer_order.proofs.Changes.{has-changed, changed-append, lasting, keeps-changed, untouched, touched}

@@ -14,7 +14,8 @@ use Rattle.object_model.specs.ObjectWords.{words_from, layout_at}
 use Rattle.object_view.specs.declared.fields.ObjView.{ObjView}
 use Rattle.object_view.specs.Views.{HasView}
 use Rattle.object_view.proofs.LayoutLaws.{laid_out}
-use Rattle.object_view.proofs.WordLaws.{is_in-head, is_in-tail, is_in-cases, is_in-nil, length-words_from, get_or-words_from}
+use Rattle.object_view.proofs.WordLaws.{length-words_from, get_or-words_from}
+use Rattle.object_model.proofs.Members.{is_in-head, is_in-tail, is_in-cases, is_in-nil}
 use Rattle.finalizer_order.specs.Unvisited.{refs_at, is_unvisited, leads_on, Reaches, AreWhole}
 use Rattle.finalizer_order.specs.Marking.{met, marked_at, Marks, MeetsRefs, AreClosed, MarksFrom}
 use Rattle.finalizer_order.proofs.Changes.{has-changed, lies-changed}

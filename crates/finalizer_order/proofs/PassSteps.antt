@@ -12,8 +12,7 @@ use Rattle.object_header.specs.Words.{has_flag}
 use Rattle.object_header.specs.declared.flags.Flag.{Flag}
 use Rattle.object_header.specs.declared.flags.Flag.TheVariants.{Visited, Order1, Order2}
 use Rattle.object_model.specs.Sets.{is_in}
-use Rattle.object_view.proofs.WordLaws.{is_in-head, is_in-tail, is_in-cases, is_in-nil}
-use Rattle.object_view.proofs.SurvivorLaws.{filter-part}
+use Rattle.object_model.proofs.Members.{is_in-head, is_in-tail, is_in-cases, is_in-nil, filter-part}
 use Rattle.finalizer_order.specs.Unvisited.{is_unvisited, Reaches, AreWhole, AreUnvisited}
 use Rattle.finalizer_order.specs.Marking.{is_unmarked, Marks, AreClosed, MarksFrom}
 use Rattle.finalizer_order.specs.Passes.{CanPass, FromOne, MarksAll, NoneLeadsLater, AreCandidates, unvisited_of, PassesFirst, PassesSecond}

@@ -14,8 +14,7 @@ use Rattle.object_model.specs.Sets.{is_in}
 use Rattle.object_model.specs.ObjectWords.{words_at}
 use Rattle.object_view.proofs.LayoutLaws.{laid_out}
 use Rattle.object_view.proofs.InitLaws.{lies-part}
-use Rattle.object_view.proofs.WordLaws.{is_in-head, is_in-tail, map-same}
-use Rattle.object_view.proofs.SurvivorLaws.{filter-part, filter-member}
+use Rattle.object_model.proofs.Members.{is_in-head, is_in-tail, map-same, filter-part, filter-member}
 use Rattle.finalizer_order.specs.Unvisited.{is_unvisited, Reaches, AreUnvisited}
 use Rattle.finalizer_order.specs.Changes.{changed_at, visited_at}
 use Rattle.finalizer_order.specs.Choosing.{is_dying, stands_before, IsChosen, IsKept, CanChoose}

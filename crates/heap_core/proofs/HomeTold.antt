@@ -6,7 +6,7 @@ use Rattle.std.proofs.lemmas.Bool.{cases_Bool}
 use Rattle.std.proofs.lemmas.Bool.Decides.{eqb_tells, nat_tests}
 use Rattle.type_table.specs.Table.{Table, KeysRise, value_at, with_value}
 use Rattle.type_table.proofs.TableLaws.{value_at-with_value, KeysRise-with_value, KeysRise-tail}
-use Rattle.object_view.proofs.WordLaws.{is_in-head, is_in-tail, is_in-cases, is_in-nil}
+use Rattle.object_model.proofs.Members.{is_in-head, is_in-tail, is_in-cases, is_in-nil, in-either}
 use Rattle.rawref_links.proofs.Tables.{same_table, value_at-first, value_at-behind_first}
 use Rattle.object_model.specs.Object.{Object}
 use Rattle.object_model.specs.Sets.{is_in}
@@ -16,10 +16,9 @@ use Rattle.heap_parts.specs.Parts.{HeapParts, word_in, place_in, home_in}
 use Rattle.heap_parts.specs.Places.{is_young, old_places}
 use Rattle.heap_parts.specs.OldSpace.{husk_at}
 use Rattle.heap_parts.specs.StandsFor.{PartsStandFor}
-use Rattle.heap_parts.proofs.Members.{in-either}
 use Rattle.heap_parts.proofs.PlaceLaws.{young-is_in, old-is_in, is_in-old}
 use Rattle.heap_parts.proofs.StandLaws.{in_slot}
-use Rattle.heap_parts.proofs.BirthSound.{kept-in}
+use Rattle.store_model.proofs.BirthSound.{kept-in}
 use Rattle.heap_parts.proofs.ReviveStands.{named-kept}
 use Rattle.heap_parts.proofs.HomeStands.{settled_home_free, tell_settled_stands}
 

@@ -10,7 +10,7 @@ use Rattle.text_model.specs.declared.item.Reason.TheVariants.{NotPinned}
 use Rattle.text_model.specs.Range.{is_above}
 use Rattle.object_header.specs.Words.{has_flag}
 use Rattle.object_header.specs.declared.flags.Flag.TheVariants.{Pinned}
-use Rattle.object_view.proofs.WordLaws.{is_in-head, is_in-tail, is_in-cases, is_in-nil}
+use Rattle.object_model.proofs.Members.{is_in-head, is_in-tail, is_in-cases, is_in-nil}
 use Rattle.object_view.proofs.LayoutLaws.{laid_out}
 use Rattle.object_view.proofs.SpaceLaws.{lies-at}
 use Rattle.object_model.specs.Sets.{is_in}
@@ -26,7 +26,7 @@ use Rattle.heap_parts.specs.Told.{if_there}
 use Rattle.heap_parts.proofs.PlaceLaws.{is_in-young, is_in-old}
 use Rattle.heap_parts.proofs.StandLaws.{in_slot}
 use Rattle.heap_parts.proofs.BirthNames.{entries-names}
-use Rattle.heap_parts.proofs.PinLaws.{keys}
+use Rattle.store_model.proofs.PinLaws.{keys}
 use Rattle.heap_core.specs.Commands.{AreReady}
 use Rattle.heap_core.proofs.Ready.{passed}
 use Rattle.heap_core.proofs.FullSlots.{FullSlot, full_slot}

@@ -23,7 +23,7 @@ const LAST_BIRTH: u64 = (1 << 63) - 2;
 impl Heap {
     /// An object of a fixed type is born for a slot, its numbers 0 and its references nil, and its line is appended. An
     /// object of more words than the setting `young` is old from birth (a rule of this project), and so is one for which a
-    /// nursery with pinned objects has no room. After an error the heap stands for the stores that it stood for, and no
+    /// nursery with pinned objects has no room. After an error the heap represents the stores that it represented, and no
     /// line is there.
     pub fn new_fixed(
         &mut self,
@@ -97,7 +97,7 @@ fn bear_array(
     bear(parts, root, type_id, len, out)
 }
 
-/// An object of a type is born for a slot, and its line is appended. The error is want of memory, also where the next
+/// An object of a type is born for a slot, and its line is appended. The error is out of memory, also where the next
 /// birth would reach 2^63.
 fn bear(
     parts: &mut Parts,

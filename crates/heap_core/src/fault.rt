@@ -8,7 +8,7 @@ use thiserror::Error;
 /// Why a call of a heap is refused.
 #[derive(Clone, Copy, Debug, PartialEq, Eq, Error)]
 pub enum HeapFault {
-    /// Memory was wanting in the middle of an earlier collection, and the heap can't be used any more.
+    /// Memory ran out in the middle of an earlier collection, and the heap can't be used any more.
     #[error("the heap is spent")]
     Spent,
     #[error("out of memory")]

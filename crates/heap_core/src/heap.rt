@@ -22,7 +22,7 @@ pub(crate) enum State {
 }
 
 /// The objects that a script makes, in words, and its root slots. A contract sees its parts as plain data, and which
-/// stores they stand for.
+/// stores they represent.
 #[derive(Drop)]
 pub struct Heap {
     pub(crate) state: State,
@@ -42,7 +42,7 @@ impl Model for Heap {
 }
 
 impl Heap {
-    /// A heap that is not started, which stands for the empty store. It takes no memory.
+    /// A heap that is not started, which represents the empty store. It does not allocate.
     pub fn closed() -> Self
         ensures { result ≡ closed_heap }
     {
@@ -51,7 +51,7 @@ impl Heap {
         }
     }
 
-    /// Starts a closed heap with these settings and types: it then stands for the empty store. The error is want of
+    /// Starts a closed heap with these settings and types: it then represents the empty store. The error is out of
     /// memory, and the heap is still closed then.
     pub fn start(
         &mut self,
@@ -71,7 +71,7 @@ impl Heap {
         Ok(())
     }
 
-    /// Whether memory was wanting in the middle of a collection. Each call answers `Spent` then, and changes nothing.
+    /// Whether memory ran out in the middle of a collection. Each call answers `Spent` then, and changes nothing.
     pub fn is_spent(&self) -> bool
         ensures { result ≡ self.now.is_spent }
     {

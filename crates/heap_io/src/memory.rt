@@ -185,7 +185,7 @@ impl Model for MemSink {
 }
 
 impl MemSink {
-    /// A sink for so many bytes. All its memory is taken here.
+    /// A sink for so many bytes. All its memory is allocated here.
     pub fn new(alloc: Global, room: usize, fails: Vec<u64>) -> Result<MemSink, AllocError>
         ensures { IfOk result (λ sink.
             sink ≡ record { written = []; room = room; calls = before_calls fails.items }) }

@@ -7,7 +7,7 @@ use std::alloc::AllocError;
 
 impl Parts {
     /// Remembers an item of the settled object at a place before it is written: by its card where the object keeps cards,
-    /// and else the object whole. The error is want of memory, and nothing changes then.
+    /// and else the object whole. The error is out of memory, and nothing changes then.
     pub fn remember_item(&mut self, place: u64, item: u64) -> Result<(), AllocError>
         requires { CanRemember self.old place item }
         ensures remembers { OnOk result (RemembersItem self.old self.new place item) }

@@ -14,7 +14,7 @@ use std::alloc::AllocError;
 use type_table::{Shape, TypeInfo, words};
 
 impl Parts {
-    /// A new object at a place where there is room for it, and in a slot. It takes no memory.
+    /// A new object at a place where there is room for it, and in a slot. It does not allocate.
     fn bear_at(&mut self, place: u64, header: u64, root: u32, info: TypeInfo, items: u64)
         requires room { HasRoom self.old place root info items }
         requires header { IsHeader header }
@@ -32,7 +32,7 @@ impl Parts {
     }
 
     /// A new object at the lowest place of the nursery that has room for it, and in a slot. False exactly where no place
-    /// has, and then nothing changes. It takes no memory.
+    /// has, and then nothing changes. It does not allocate.
     pub fn bear_young(&mut self, root: u32, type_id: u16, info: TypeInfo, items: u64) -> bool
         requires { HasNurseryRoom self.old root info items }
         ensures bears { IsTrue result → BearsYoung self.old self.new root type_id info items }
@@ -48,7 +48,7 @@ impl Parts {
         true
     }
 
-    /// A block of n words outside the nursery. The error is want of memory, and no object changes then.
+    /// A block of n words outside the nursery. The error is out of memory, and no object changes then.
     pub fn take_block(&mut self, n: u64) -> Result<u64, AllocError>
         requires stands { Stands self.old.old_blocks self.old.memory }
         requires n { (2 ≤ n) × (n ≤ 16777219) }
@@ -58,7 +58,7 @@ impl Parts {
         self.old_blocks.take(&mut self.space, n)
     }
 
-    /// A new object in a block of its own words outside the nursery, and in a slot. The error is want of memory, and no
+    /// A new object in a block of its own words outside the nursery, and in a slot. The error is out of memory, and no
     /// object changes then.
     pub fn bear_old(
         &mut self,

@@ -95,7 +95,7 @@ impl Model for Parts {
 }
 
 impl Parts {
-    /// No objects, and empty slots. The error is want of memory.
+    /// No objects, and empty slots. The error is out of memory.
     pub fn new(alloc: Global, settings: &Settings, types: TypeTable) -> Result<Self, AllocError>
         requires { AreInRange settings.now }
         ensures { IfOk result (λ parts. AreFresh parts settings.now types) }

@@ -21,7 +21,7 @@ impl Parts {
         n < 65_535
     }
 
-    /// Pins the object at a place once more. The error is want of memory, and nothing changes then.
+    /// Pins the object at a place once more. The error is out of memory, and nothing changes then.
     pub fn pin(&mut self, place: u64) -> Result<(), AllocError>
         requires there { IsTrue (has self.old.memory.blocks place) }
         requires fits { count_in self.old.pins place < 65535 }

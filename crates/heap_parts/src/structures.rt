@@ -11,7 +11,7 @@ use std::alloc::AllocError;
 
 impl Parts {
     /// Makes a structure under a free number, linked with the object at a place by a P link or an O link, with this own
-    /// count. An object has at most one P link. The error is want of memory, and nothing changes then.
+    /// count. An object has at most one P link. The error is out of memory, and nothing changes then.
     pub fn make_link(
         &mut self,
         p: bool,

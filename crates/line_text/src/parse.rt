@@ -15,7 +15,7 @@ const MAX_STRUCTURE: u64 = 65_535;
 const MAX_OWN: u64 = 4_294_967_295;
 
 /// The line that the text, which has no LF at its end, spells: exactly where there is one, and then it is the only one.
-/// It takes no memory.
+/// It does not allocate.
 pub fn parse_output_line(line: &[u8]) -> Option<Line>
     ensures spelled { IfSome result (λ l. Spells line.now l) }
     ensures only { IfSome result (λ l. (other : Line) → Spells line.now other → other ≡ l) }

@@ -11,7 +11,7 @@ use itoa::Buffer;
 use std::alloc::AllocError;
 use text_model::{Fate, Line, LinkEnd, Phase};
 
-/// Appends the text of a line, with its LF. After want of memory the old text stands, with part of the line behind it.
+/// Appends the text of a line, with its LF. Where memory runs out, the old text stands, with part of the line behind it.
 pub fn print_line(l: &Line, out: &mut Vec<u8>) -> Result<(), AllocError>
     requires { IsProper l.now }
     ensures ok { OnOk result (out.new.items ≡ out.old.items ++ line_text l.now) }
@@ -23,7 +23,7 @@ pub fn print_line(l: &Line, out: &mut Vec<u8>) -> Result<(), AllocError>
     append(b"\n", out)
 }
 
-/// Appends the texts of lines, one after another. After want of memory the old text stands, with part of theirs behind it.
+/// Appends the texts of lines, one after another. Where memory runs out, the old text stands, with part of theirs behind it.
 pub fn print_lines(lines: &[Line], out: &mut Vec<u8>) -> Result<(), AllocError>
     requires { All IsProper lines.now }
     ensures ok { OnOk result (out.new.items ≡ out.old.items ++ lines_text lines.now) }

@@ -9,7 +9,7 @@ use heap_space::Space;
 
 /// Copies `n` references of the object at the place `b`, whose view is `from`, from item `j` on, to those of the object at
 /// the place `a`, whose view is `to`, from item `i` on. All are read as they were before, also where both are items of one
-/// object and overlap. Every other word stays. It takes no memory.
+/// object and overlap. Every other word stays. It does not allocate.
 pub fn move_refs(
     space: &mut Space,
     to: ObjView,

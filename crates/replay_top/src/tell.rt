@@ -48,7 +48,7 @@ fn write_both<E: Sink>(err: &mut E, first: &[u8], second: &[u8]) -> Result<(), F
     write_all(err, second)
 }
 
-/// Writes a number behind a text. It takes no memory.
+/// Writes a number behind a text. It does not allocate.
 fn write_number<E: Sink>(err: &mut E, text: &[u8], number: u64) -> Result<(), Failed>
     ensures writes { Writes (E.written err.old) (E.written err.new) (text.now ++ decimal number) result }
     ensures cause { HasCause (E.faults err.old) (E.faults err.new) result }

@@ -12,7 +12,7 @@ use type_table::{Shape, TypeInfo};
 /// How many settings and types a script has.
 const HEADER: u8 = 5;
 
-/// A generated script that is given item by item. It is seen as the items that are still to come, and takes no memory.
+/// A generated script that is given item by item. It is seen as the items that are still to come, and does not allocate.
 #[derive(Debug, Drop)]
 pub struct Generator {
     /// How many of the settings and types were given.

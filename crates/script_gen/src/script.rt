@@ -14,7 +14,7 @@ const HEADER: &[u8] = b"set roots 16\ntype 1 fixed 1 2\ntype 2 refs\ntype 3 weak
 /// Appends the script with so many drawn commands, of which the sequence begins behind `start`. It has 20 lines before
 /// them, and `collect` behind them.
 ///
-/// The error is want of memory alone. What was in the buffer stands at its front then, and behind it may stand a part of
+/// The only error is out of memory. What was in the buffer stands at its front then, and behind it may stand a part of
 /// the script. The time is linear in `commands`.
 pub fn generate(start: u64, commands: u32, out: &mut Vec<u8>) -> Result<(), AllocError>
     requires { commands ≤ 100000 }

@@ -11,7 +11,7 @@ use crate::objects::print_object_command;
 use std::alloc::AllocError;
 use text_model::Command;
 
-/// Appends the line of a command, with LF. Where memory is wanting, what was in the buffer stays at its front, and
+/// Appends the line of a command, with LF. Where memory runs out, what was in the buffer stays at its front, and
 /// behind it may stand a part of the line. That line is read as this command. (This project's own.)
 pub fn print_command(command: &Command, out: &mut Vec<u8>) -> Result<(), AllocError>
     requires { is_above command.now ≡ false }

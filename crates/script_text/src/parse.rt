@@ -14,7 +14,7 @@ use type_table::{Shape, TypeInfo};
 
 /// What a line says, of which its LF is no part. Its words stand with one space between two; a number is written in
 /// decimal digits with no zero in front. `Range` is answered where the line has a form and a number is above the greatest
-/// of its place, `Syntax` where it has no form, as with a number of more than 64 bits. It takes no memory. (The grammar is
+/// of its place, `Syntax` where it has no form, as with a number of more than 64 bits. It does not allocate. (The grammar is
 /// this project's own.)
 pub fn parse_line(line: &[u8]) -> Result<Item, BadLine>
     ensures reading { result ≡ item_of line.now }

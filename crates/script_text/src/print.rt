@@ -1,4 +1,4 @@
-//! Lines that are written as words with one space between two. Where memory is wanting, what was in the buffer stays at
+//! Lines that are written as words with one space between two. Where memory runs out, what was in the buffer stays at
 //! its front, and behind it may stand a part of the line.
 
 ghost use Rattle.std.specs.Prelude.{◌≡◌, ◌<◌, ◌^◌, ◌++◌, ◌∷◌, [], All, OnOk, OnErr};

@@ -8,7 +8,7 @@ ghost use Rattle.session_core.specs.Standing.{KeepsFront};
 use heap_core::{Dec, Heap, HeapFault};
 use store_model::{Command, Line};
 
-/// Does a command that is not refused, and appends its lines. After want of memory the heap stands where it stood, and the
+/// Does a command that is not refused, and appends its lines. Where memory runs out, the heap stands where it stood, and the
 /// old lines stand in front.
 pub(crate) fn do_command(
     heap: &mut Heap,

@@ -85,7 +85,7 @@ pub struct Session {
     pub(crate) names: Vec<u8>,
     // The types, until the heap has them.
     pub(crate) types: Option<TypeTable>,
-    // The same types once more, for the heap. They are gone where want of memory has dropped them: the session has its own
+    // The same types once more, for the heap. They are gone where out of memory has dropped them: the session has its own
     // still, but can start no heap.
     pub(crate) for_heap: Option<TypeTable>,
 }
@@ -102,7 +102,7 @@ impl Model for Session {
 }
 
 impl Session {
-    /// Nothing is set, and no type is there. The error is want of memory.
+    /// Nothing is set, and no type is there. The error is out of memory.
     pub fn new(alloc: Global) -> Result<Self, AllocError>
         ensures { IfOk result (λ session. session ≡ record { settings = defaults; names = []; types = Some [] }) }
     {
@@ -118,7 +118,7 @@ impl Session {
     /// Does an item of a script, and appends its lines. The heap is started at the first command that is not refused.
     ///
     /// What the lines held before stands in front of them after an error too. A refusal changes nothing. Where a birth exceeds
-    /// the limit, the lines of its collections are appended. After want of memory the heap is spent, or session and heap stand
+    /// the limit, the lines of its collections are appended. Where memory runs out, the heap is spent, or session and heap stand
     /// where the blocks of collections that were finished led; what is appended then is not said.
     pub fn item(
         &mut self,

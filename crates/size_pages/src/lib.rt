@@ -57,7 +57,7 @@ pub struct Pages {
 }
 
 impl Pages {
-    /// No page and no live block. It takes no memory.
+    /// No page and no live block. It does not allocate.
     ///
     /// A page is to have so many words, an arena so many pages, and no block more words than `small`.
     pub fn new(alloc: Global, page: u64, pages_per_arena: u64, small: u64) -> Pages
@@ -86,7 +86,7 @@ impl Pages {
     /// A page of blocks of n words that has room gives it, where one does not wait, and else the
     /// lowest unused page is begun, and before that an arena added where none is unused. Of its page
     /// it is the first block of the chain, and where none is chained the first that was never handed
-    /// out. The error is want of memory alone. It leaves everything as it was.
+    /// out. The only error is out of memory. It leaves everything as it was.
     pub fn take(&mut self, space: &mut Space, n: u64) -> Result<u64, AllocError>
         requires stands { Stands self.old space.old }
         requires n { (2 ≤ n) × (n ≤ greatest_block self.old) }
@@ -115,7 +115,7 @@ impl Pages {
         Ok(self.take_unlisted(space, page, n))
     }
 
-    /// Takes the block, of n words at a, off the live ones. It takes no memory.
+    /// Takes the block, of n words at a, off the live ones. It does not allocate.
     ///
     /// A waiting page stays so. Another page is unused at once where its last live block goes.
     pub fn give_back(&mut self, space: &mut Space, a: u64, n: u64)

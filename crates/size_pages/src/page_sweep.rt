@@ -40,8 +40,8 @@ impl Pages {
     /// appended, and their blocks given back. The others lose the flag Visited, and reserved homes
     /// are passed over. The page, which does not wait any more, is unused where nothing is left.
     ///
-    /// Word 0 of each live block is to be a header without the flag Free. The error is want of
-    /// memory alone, and leaves everything as it was.
+    /// Word 0 of each live block is to be a header without the flag Free. The only error is out of
+    /// memory, and leaves everything as it was.
     pub fn sweep_page(&mut self, space: &mut Space, freed: &mut Vec<u64>) -> Result<(), AllocError>
         requires { CanSweep self.old space.old }
         ensures swept { (live : List Extent) (page : ℕ) (rest : List ℕ) → HasHeaders self.old space.old live (page ∷ rest) → OnOk result (SweepsPage self.new space.old space.new (page_size self.old) live page rest freed.old.items freed.new.items) }

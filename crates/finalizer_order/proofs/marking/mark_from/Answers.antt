@@ -1,5 +1,5 @@
 use Rattle.std.proofs.Common.{[], ◌<◌, ◌≤◌, length, ◌∙◌, arith}
-use Rattle.object_view.proofs.WordLaws.{is_in-head}
+use Rattle.object_model.proofs.Members.{is_in-head}
 use Rattle.std.proofs.lemmas.List.{get_or_default}
 use Rattle.finalizer_order.proofs.Objects.{has-place}
 use Rattle.finalizer_order.proofs.MeetSteps.{marks_begin, next-behind, next-whole, marks_next, marks_smaller, marks_from}
