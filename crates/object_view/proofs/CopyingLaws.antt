@@ -154,9 +154,10 @@ run-on P ps source target n order none more =
     let Q : ℕ → List Placed → Type 0 = λ k qs. P k qs × ((j : ℕ) → k ≤ j → word_at qs (source + j) ≡ word_at ps (source + j)) in
     let all : Q (length xs) (with_run ps target xs) = run-by_words Q ps target xs (none, λ j l. refl) (λ k qs l h.
     let below : k < n = omega (arith, l, size) in
-    let word : word_at qs (source + k) ≡ get_or xs k 0 = h.1 k (omega arith) ∙ sym (get_or-run_at ps source n k below) in
-    (subst (λ (x : ℕ). P (suc k) (with_word qs (target + k) x)) word (more k qs below h.0),
-    λ j m. word_at-elsewhere qs (target + k) (get_or xs k 0) (source + j) (λ e. omega (arith, e, m, order)) ∙ h.1 j (omega (arith, m)))) in
+    let word : word_at qs (source + k) ≡ get_or xs k 0 = h.1 k (omega arith) ∙ sym (get_or-run_at ps source n k below) in (
+      subst (λ (x : ℕ). P (suc k) (with_word qs (target + k) x)) word (more k qs below h.0),
+      λ j m. word_at-elsewhere qs (target + k) (get_or xs k 0) (source + j) (λ e. omega (arith, e, m, order)) ∙ h.1 j (omega (arith, m)),
+    )) in
     subst (λ (k : ℕ). P k (with_run ps target xs)) size all.0
 
 -- And where they are not before those read, with the last one first.

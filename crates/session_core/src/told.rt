@@ -76,7 +76,6 @@ impl Session {
         }
     }
 
-
     /// Whether the object in a slot has a P link.
     pub(crate) fn has_p_link(&self, heap: &Heap, root: u32) -> bool
         requires { IsPlaced self.now heap.now }
