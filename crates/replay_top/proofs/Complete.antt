@@ -1,6 +1,6 @@
 -- A run that no cause stops comes to its end.
 use Rattle.std.proofs.Common.{◌≡◌, ℕ, List, Option, Some, None, Err, refl, subst, inl, inr}
-use Rattle.store_model.specs.EndOfRun.{IsRefused, ExceedsLimit, IsStop}
+use Rattle.store_model.specs.EndOfRun.{IsRefused, ExceedsLimit}
 use Rattle.replay_top.specs.declared.line.Stop.{Stop}
 use Rattle.replay_top.specs.declared.line.Stop.TheVariants.{Malformed, HeapLimit, OutOfMemory, ReadFault, WriteFault}
 use Rattle.replay_top.specs.declared.top.Status.{Status}

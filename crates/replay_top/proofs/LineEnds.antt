@@ -1,5 +1,5 @@
 -- What came of a line.
-use Rattle.std.proofs.Common.{◌≡◌, ◌≢◌, ℕ, ◌≤◌, List, [], ◌∷◌, ◌++◌, length, Option, Some, None, Result, Ok, Err, refl, sym, ap, ◌∙◌, subst, inr, inl}
+use Rattle.std.proofs.Common.{◌≡◌, ℕ, ◌≤◌, List, [], ◌∷◌, ◌++◌, length, Option, Result, Ok, Err, refl, sym, ap, ◌∙◌, subst, inr, inl}
 use Rattle.std.specs.Prelude.{All}
 use Rattle.std.specs.Io.KnownBytes.{Appends}
 use Rattle.std.proofs.KnownBytes.{Keeps-refl}
@@ -13,7 +13,6 @@ use Rattle.text_model.specs.Grammar.{item_of}
 use Rattle.text_model.specs.Script.{reading, as_reading, bad_reason}
 use Rattle.text_model.specs.Text.{line_text, lines_text, IsProper}
 use Rattle.store_model.specs.Progress.{Progress}
-use Rattle.store_model.specs.Unbuilt.{program_refusal}
 use Rattle.store_model.specs.Transcript.{Group, group_lines, transcript_text}
 use Rattle.store_model.specs.EndOfRun.{IsRefused, TakesLine, ExceedsLimit}
 use Rattle.store_model.proofs.Proper.{ItemDoes-proper, ItemExceeds-proper}
@@ -24,7 +23,7 @@ use Rattle.session_core.specs.declared.session.RunFault.TheVariants.{Malformed a
 use Rattle.session_core.proofs.Passing.{language_accepts}
 use Rattle.session_core.proofs.Places.{in_range_at}
 use Rattle.replay_top.specs.Written.{WritesPart, WritesLines}
-use Rattle.replay_top.specs.Lines.{DoesLine, ExceedsLine, CutsLine, EndsLine}
+use Rattle.replay_top.specs.Lines.{EndsLine}
 use Rattle.replay_top.specs.declared.line.Stop.{Stop}
 use Rattle.replay_top.specs.declared.line.Stop.TheVariants.{Malformed, HeapLimit, OutOfMemory, ReadFault, WriteFault}
 

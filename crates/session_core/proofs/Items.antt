@@ -1,6 +1,6 @@
 -- What an item that is not refused does where a session and its heap stand.
-use Rattle.std.proofs.Common.{◌≡◌, ℕ, Bool, true, List, [], ◌∷◌, ◌++◌, Option, Some, None, Result, Ok, Err, false, refl, sym, ap, ◌∙◌, subst, inl, inr, append-nil, option_map}
-use Rattle.std.specs.Prelude.{is_none, slice_get, ◌≢◌}
+use Rattle.std.proofs.Common.{◌≡◌, ℕ, Bool, true, List, [], ◌∷◌, ◌++◌, Option, Some, None, Err, false, refl, sym, ap, ◌∙◌, subst, inl, inr, append-nil, option_map}
+use Rattle.std.specs.Prelude.{is_none, is_some, not, slice_get}
 use Rattle.type_table.specs.declared.info.TypeInfo.{TypeInfo}
 use Rattle.type_table.specs.Table.{Table, with_value}
 use Rattle.text_model.specs.declared.command.Command.{Command}
@@ -16,22 +16,20 @@ use Rattle.store_model.specs.Store.{Store, empty_store}
 use Rattle.store_model.specs.Steps.{Does}
 use Rattle.store_model.specs.Progress.{Progress, with_setting, after_setting, after_type, after_command}
 use Rattle.store_model.specs.Checks.{first_reason}
-use Rattle.store_model.specs.Look.{Look, look}
+use Rattle.store_model.specs.Look.{Look}
 use Rattle.store_model.specs.Refusal.{refusal_seen}
 use Rattle.store_model.specs.Unbuilt.{Room, program_checks}
 use Rattle.store_model.specs.Transcript.{ItemDoes}
 use Rattle.heap_parts.specs.Parts.{HeapParts}
 use Rattle.heap_parts.specs.Told.{told, room_told}
-use Rattle.heap_core.specs.declared.fault.HeapFault.{HeapFault}
-use Rattle.heap_core.specs.declared.fault.HeapFault.TheVariants.{Spent, OutOfMemory as NoMemory}
-use Rattle.heap_core.specs.Heap.{HeapSeen, heap_of, closed_heap, StandsFor}
-use Rattle.heap_core.specs.Commands.{OfParts, AreReady, CanDo, IsFresh, IsStanding, Performs, Keeps, setup_in, told_by, room_by}
+use Rattle.heap_core.specs.Heap.{HeapSeen, heap_of, StandsFor}
+use Rattle.heap_core.specs.Commands.{OfParts, AreReady, CanDo, IsFresh, Performs, Keeps, setup_in, told_by, room_by}
 use Rattle.heap_core.proofs.LookLaws.{look_told, room_is}
 use Rattle.session_core.specs.declared.session.RunFault.{RunFault}
 use Rattle.session_core.specs.declared.session.RunFault.TheVariants.{OutOfMemory}
-use Rattle.session_core.specs.Blocks.{LeadsByBlocks, NoBlock, LeavesStore, LeavesOff, makes_blocks}
+use Rattle.session_core.specs.Blocks.{NoBlock, LeavesStore, LeavesOff, makes_blocks}
 use Rattle.session_core.specs.Seen.{SessionSeen}
-use Rattle.session_core.specs.Standing.{IsStarted, HasHeap, HasStore, StandsAt, IsPlaced, DoesItem, LeavesItem, KeepsFront, Answers, Sets, Adds, Begins, types_in, table_of, seen_if, room_seen, setup_of, refusal_of}
+use Rattle.session_core.specs.Standing.{IsStarted, HasHeap, HasStore, StandsAt, IsPlaced, DoesItem, KeepsFront, Answers, Sets, Adds, Begins, types_in, table_of, seen_if, room_seen, setup_of, refusal_of}
 use Rattle.session_core.proofs.Passing.{passed}
 use Rattle.session_core.proofs.Looks.{refusal_is, look-empty}
 
@@ -39,18 +37,8 @@ some_table : (types : Option (Table TypeInfo)) → is_none types ≡ false → (
 some_table None e = absurd (let no : ⊥ = cc in no)
 some_table (Some table) e = (table, refl)
 
--- a session whose script has come to a command has a heap that stands for some store
-pub heap_standing : (session : SessionSeen) (heap : HeapSeen) → session.types ≡ None → IsPlaced session heap → IsStanding heap
-heap_standing session heap is placed =
-    let has : IsStarted session.settings heap = subst (λ (t : Option (Table TypeInfo)). HasHeap t session.settings heap) is placed.stands.has_heap in
-    let stands : StandsFor heap placed.at.store = subst (λ (t : Option (Table TypeInfo)). HasStore t session.settings heap placed.at.store) is placed.stands.store in
-    subst IsStanding (sym has.is) (record { store = placed.at.store; stands = subst (λ (h : HeapSeen). StandsFor h placed.at.store) has.is stands })
-
 pub heap_started : (session : SessionSeen) (heap : HeapSeen) → session.types ≡ None → IsPlaced session heap → IsStarted session.settings heap
 heap_started session heap is placed = subst (λ (t : Option (Table TypeInfo)). HasHeap t session.settings heap) is placed.stands.has_heap
-
-pub heap_closed : (session : SessionSeen) (heap : HeapSeen) (types : Table TypeInfo) → session.types ≡ Some types → IsPlaced session heap → heap ≡ closed_heap
-heap_closed session heap types is placed = subst (λ (t : Option (Table TypeInfo)). HasHeap t session.settings heap) is placed.stands.has_heap
 
 pub does_blank : (session : SessionSeen) (heap : HeapSeen) (at : Progress) (item : Item) (before : List Line)
     → item ≡ Blank → refusal_of session heap item ≡ None → StandsAt session heap at → DoesItem session heap at item before before
@@ -144,6 +132,11 @@ does_type session new heap at item id info before is accepted adds stands =
       stands = stands_typed session new heap at found.0 id info found.1 adds stands;
     }
 
+-- a table that is not there
+pub no_table : (types : Option (Table TypeInfo)) (none : Bool) → is_some types ≡ not none → none ≡ true → types ≡ None
+no_table None none e is = refl
+no_table (Some table) none e is = absurd (let no : true ≡ false = e ∙ ap (λ (b : Bool). not b) is in let never : ⊥ = cc in never)
+
 -- the heap is there already
 pub begins_again : (session new : SessionSeen) (heap : HeapSeen) → session.types ≡ None → new ≡ session → IsPlaced session heap → Begins session new heap heap
 begins_again session new heap is same placed = record {
@@ -204,14 +197,6 @@ can_do session mid heap started command accepted placed b =
           ∙ (ap (λ (r : Room). first_reason (program_checks setup seen r command)) room_same ∙ accepted));
     } in
     subst (λ (h : HeapSeen). CanDo h command) (sym b.has_heap.is) ready
-
--- the heap that it started is not spent
-pub alive : (session mid : SessionSeen) (heap started : HeapSeen) → Begins session mid heap started → started.is_spent ≡ false
-alive session mid heap started b = ap (λ (h : HeapSeen). h.is_spent) b.has_heap.is
-
--- want of memory is not that the heap is spent
-pub not_spent : (fault : HeapFault) → fault ≡ NoMemory → fault ≢ Spent
-not_spent fault is spent = let no : NoMemory ≡ Spent = sym is ∙ spent in let never : ⊥ = cc in never
 
 -- a heap with settings and types that is not spent has parts
 started_by : (heap : HeapSeen) (setup : Setup) (found : Option HeapParts) → heap.parts ≡ found → option_map (λ (p : HeapParts). p.setup) found ≡ Some setup

@@ -1,6 +1,5 @@
 pub mod Ranges
 pub mod Passing
 pub mod Looks
-pub mod Performing
 pub mod Items
 pub mod Places

@@ -12,14 +12,13 @@ use Rattle.object_model.specs.Object.{object_at}
 use Rattle.object_model.specs.Shapes.{kind_of}
 use Rattle.store_model.specs.Store.{Store, empty_store}
 use Rattle.store_model.specs.Slots.{held, kind_in}
-use Rattle.store_model.specs.StructChecks.{has_p_link}
 use Rattle.store_model.specs.Look.{Look, look, is_held_in}
 use Rattle.store_model.specs.Checks.{first_reason}
 use Rattle.store_model.specs.Progress.{Progress}
 use Rattle.store_model.specs.Refusal.{refusal_seen}
 use Rattle.store_model.specs.Unbuilt.{Room, room_of, program_checks, program_refusal}
 use Rattle.heap_core.specs.Heap.{HeapSeen, StandsFor}
-use Rattle.heap_core.specs.Commands.{nothing_told, told_by, room_by, room_if}
+use Rattle.heap_core.specs.Commands.{nothing_told, told_by, room_by}
 use Rattle.heap_core.proofs.LookLaws.{look_told, room_is}
 use Rattle.session_core.specs.Seen.{SessionSeen}
 use Rattle.session_core.specs.Standing.{HasHeap, HasStore, StandsAt, seen_if, room_seen, setup_of, refusal_of}

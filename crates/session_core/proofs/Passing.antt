@@ -1,20 +1,18 @@
 -- What follows where checks refuse nothing.
-use Rattle.std.proofs.Common.{◌≡◌, ℕ, ◌≤◌, Bool, true, false, cond, List, [], ◌∷◌, ◌++◌, Option, Some, None, refl, ap, ◌∙◌}
-use Rattle.std.specs.Prelude.{◌||◌, nat_lt}
+use Rattle.std.proofs.Common.{◌≡◌, ℕ, ◌≤◌, Bool, true, false, cond, [], ◌∷◌, ◌++◌, Option, Some, None, refl}
+use Rattle.std.specs.Prelude.{◌||◌}
 use Rattle.std.proofs.lemmas.Bool.{ltb-false}
-use Rattle.text_model.specs.declared.command.Command.{Command}
 use Rattle.text_model.specs.declared.command.Command.TheVariants.{NewArray, CopyRefs}
 use Rattle.text_model.specs.declared.item.Item.{Item}
 use Rattle.text_model.specs.declared.item.Item.TheVariants.{Blank, Setting, TypeDef, Command as CommandItem}
 use Rattle.text_model.specs.declared.item.Reason.{Reason}
 use Rattle.text_model.specs.declared.item.Reason.TheVariants.{Range, NotBuilt}
 use Rattle.text_model.specs.Range.{is_above, is_above_ids, is_above_items}
-use Rattle.object_model.specs.Setup.{Setup}
 use Rattle.store_model.specs.Checks.{Checks, first_reason}
-use Rattle.store_model.specs.Look.{Look, look}
+use Rattle.store_model.specs.Look.{look}
 use Rattle.store_model.specs.Progress.{Progress}
 use Rattle.store_model.specs.Refusal.{checks_in_range, refusal, refusal_seen}
-use Rattle.store_model.specs.Unbuilt.{Room, is_unbuilt, program_checks, program_refusal}
+use Rattle.store_model.specs.Unbuilt.{is_unbuilt, program_refusal}
 
 -- a check that does not refuse does not hold
 pub passed : (b : Bool) (reason : Reason) (rest : Option Reason) → cond b (Some reason) rest ≡ None → (b ≡ false) × (rest ≡ None)
@@ -38,10 +36,6 @@ language_accepts at (CommandItem command) e =
     let built = passed (is_unbuilt command) NotBuilt _ ranged.1 in
     let further : first_reason (checks_in_range at.setup (look at.store) command) ≡ None = passed_front (checks_in_range at.setup (look at.store) command) _ built.1 in
     rw ranged.0 further
-
--- a command that is not refused is built
-pub built_of : (setup : Setup) (seen : Look) (room : Room) (command : Command) → first_reason (program_checks setup seen room command) ≡ None → is_unbuilt command ≡ false
-built_of setup seen room command e = (passed (is_unbuilt command) NotBuilt _ (passed (is_above command) Range _ e).1).0
 
 or_false : (a b : Bool) → (a || b) ≡ false → (a ≡ false) × (b ≡ false)
 or_false true b e = absurd (let no : ⊥ = cc in no)

@@ -7,9 +7,8 @@ use Rattle.object_model.specs.declared.settings.Settings.{Settings}
 use Rattle.object_model.specs.Setup.{Setup, defaults}
 use Rattle.store_model.specs.Store.{Store, empty_store}
 use Rattle.store_model.specs.Progress.{Progress, at_start}
-use Rattle.store_model.proofs.Proper.{AreStructsInRange, IsInRange, links_in_range}
+use Rattle.store_model.proofs.Proper.{IsInRange, links_in_range}
 use Rattle.std.proofs.lemmas.List.Elements.{All-nil}
-use Rattle.heap_parts.specs.Parts.{HeapParts}
 use Rattle.heap_core.specs.Heap.{HeapSeen, closed_heap, heap_of, StandsFor}
 use Rattle.heap_core.specs.Commands.{setup_in}
 use Rattle.session_core.specs.Seen.{SessionSeen}

@@ -1,4 +1,4 @@
-use Rattle.std.proofs.Common.{ℕ, List, Err, refl, ap, sym, subst, ◌∙◌}
+use Rattle.std.proofs.Common.{List, Err, refl, sym, subst}
 use Rattle.std.specs.Prelude.{All}
 use Rattle.std.specs.Io.KnownBytes.{Appends}
 use Rattle.std.proofs.KnownBytes.{Keeps-refl}
