@@ -13,3 +13,4 @@ pub mod QueueLaws
 pub mod Listing
 pub mod ChooseSteps
 pub mod QueueSteps
+pub mod CallerLaws

@@ -128,7 +128,7 @@ impl Finals {
     /// kept: it gets the flag Visited, and its births are appended, by rising birth. The flags Order1
     /// and Order2 are clear before and after.
     ///
-    /// The only error is out of memory. Nothing more is said of the finalizers and the space then, and
+    /// The error is want of memory alone. Nothing more is said of the finalizers and the space then, and
     /// `kept` is as it was.
     pub fn choose(
         &mut self,
@@ -152,7 +152,7 @@ impl Finals {
     }
 
     /// Lets each chosen object enter its queue, in order of registration, and appends their places with
-    /// the numbers of their queues. Where memory runs out, nothing more is said of the finalizers.
+    /// the numbers of their queues. After want of memory nothing more is said of the finalizers.
     pub fn flush(&mut self, queued: &mut Vec<(u64, u64)>) -> Result<(), AllocError>
         ensures flushed { OnOk result (self.new ≡ record self.old {
           chosen = [];
@@ -191,7 +191,7 @@ impl Finals {
     }
 
     /// Appends the places of the queued objects, by rising queue and in their order, and then those of
-    /// the chosen ones, in order of registration. After out of memory some may have been appended.
+    /// the chosen ones, in order of registration. After want of memory some may have been appended.
     pub fn waiting_places(&self, places: &mut Vec<u64>) -> Result<(), AllocError>
         ensures ok { OnOk result (places.new.items
             ≡ places.old.items ++ (places_of (queued_entries self.now.queues) ++ places_of self.now.chosen)) }

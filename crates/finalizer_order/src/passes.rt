@@ -20,7 +20,7 @@ use object_header::{Flag, clear, is_set, set};
 use std::alloc::{AllocError, Global};
 use type_table::TypeTable;
 
-/// The lists that the passes need. They are kept from one choice to the next, so that it does not allocate
+/// The lists that the passes need. They are kept from one choice to the next, so that it takes no memory
 /// where an earlier one was as large.
 #[derive(Drop)]
 pub(crate) struct Passes {

@@ -77,7 +77,7 @@ pub(crate) fn empty_queues(alloc: Global, count: usize) -> Result<Vec<Queue>, Al
 }
 
 /// Lets all chosen objects enter their queues, from the first on, and appends their places with the
-/// numbers of the queues. After out of memory each object is still chosen or in its queue.
+/// numbers of the queues. After want of memory each object is still chosen or in its queue.
 pub(crate) fn queue_all(
     queues: &mut Vec<Queue>,
     chosen: &mut Vec<Entry>,

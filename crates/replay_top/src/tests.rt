@@ -56,7 +56,7 @@ fn answered(
     })
 }
 
-const ROWS: [Row; 49] = [
+const ROWS: [Row; 48] = [
     Row {
         script: b"",
         read_fails: &[],
@@ -254,7 +254,7 @@ const ROWS: [Row; 49] = [
         read_fails: &[],
         write_fails: &[],
         out: b"",
-        err: b"malformed: line 1: NoRoot\n",
+        err: b"malformed: line 1: NotBuilt\n",
         status: Status::Malformed,
     },
     Row {
@@ -370,35 +370,27 @@ const ROWS: [Row; 49] = [
         status: Status::Malformed,
     },
     Row {
-        script: b"type 1 fixed 0 0\nnew 0 1\nregister 0 3\nnext 1 3\nregister 0 4\n",
-        read_fails: &[],
-        write_fails: &[],
-        out: b"new 1 young\nnext nil\n",
-        err: b"malformed: line 5: NoQueue\n",
-        status: Status::Malformed,
-    },
-    Row {
-        script: b"type 1 fixed 0 0\nnew 0 1\nregister 0 0\nregister 0 0\n",
+        script: b"type 1 fixed 0 0\nnew 0 1\nregister 0 3\n",
         read_fails: &[],
         write_fails: &[],
         out: b"new 1 young\n",
-        err: b"malformed: line 4: Registered\n",
+        err: b"malformed: line 3: NotBuilt\n",
         status: Status::Malformed,
     },
     Row {
-        script: b"type 1 fixed 0 0\ntype 2 weak\nnew 0 1\nweak 1 2 0\nderef 2 1\nsame 2 0\nderef 3 0\n",
+        script: b"type 1 fixed 0 0\ntype 2 weak\nnew 0 1\nweak 1 2 0\n",
         read_fails: &[],
         write_fails: &[],
-        out: b"new 1 young\nnew 2 young\nderef 1\nsame yes\n",
-        err: b"malformed: line 7: WrongShape\n",
+        out: b"new 1 young\n",
+        err: b"malformed: line 4: NotBuilt\n",
         status: Status::Malformed,
     },
     Row {
-        script: b"type 1 refs\nnew 0 1 3\nnew 1 1 3\nlink 0 0 1\ncopyrefs 1 1 0 0 2\nload 2 1 1\nload 3 1 2\ncopyrefs 1 2 0 0 2\n",
+        script: b"type 1 refs\nnew 0 1 3\nnew 1 1 3\nlink 0 0 1\ncopyrefs 1 1 0 0 2\n",
         read_fails: &[],
         write_fails: &[],
-        out: b"new 1 young\nnew 2 young\nloaded 2\nloaded nil\n",
-        err: b"malformed: line 8: NoItem\n",
+        out: b"new 1 young\nnew 2 young\n",
+        err: b"malformed: line 5: NotBuilt\n",
         status: Status::Malformed,
     },
     Row {
