@@ -1,6 +1,7 @@
-pub mod Heap
+pub mod Parts
+pub mod Told
+pub mod StandsFor
+pub mod Effects
 pub mod Commands
-pub mod StructLines
 pub mod Seen
-pub mod Bearing
-pub mod Pinning
+pub mod Code

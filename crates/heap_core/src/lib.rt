@@ -1,17 +1,12 @@
-//! The heap of a script: objects in words, and root slots that lead to them. A file for each family of calls.
+//! The heap of a script: objects in words, and root slots that lead to them.
 #![tactic(auto)]
 
-mod births;
 mod fault;
-mod fields;
 mod heap;
-mod identity;
-mod pinning;
-mod slots;
-mod structures;
-mod tellers;
-mod usage;
+mod parts;
 
 pub use fault::HeapFault;
 pub use heap::Heap;
-pub use rawref_links::Dec;
+
+#[cfg(test)]
+mod tests;

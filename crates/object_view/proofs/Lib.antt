@@ -17,4 +17,3 @@ pub mod MovingLaws
 pub mod WholeLaws
 pub mod MemoryLaws
 pub mod SurvivorLaws
-pub mod CopyingLaws

@@ -1,4 +1,3 @@
 pub mod Seen
-pub mod Blocks
 pub mod Standing
-pub mod Commands
+pub mod Doing

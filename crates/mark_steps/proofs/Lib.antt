@@ -1,7 +1,0 @@
-pub mod Refs
-pub mod Lists
-pub mod VisitStep
-pub mod MarkLoop
-pub mod FrameLaws
-pub mod ClosureLaws
-pub mod TwoObjects

@@ -1,5 +1,0 @@
-pub mod Remembered
-pub mod Tracking
-pub mod Entries
-pub mod Drained
-pub mod Remembering
