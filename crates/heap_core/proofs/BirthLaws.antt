@@ -1,160 +1,260 @@
--- What a birth of the heap is to the stores that it stands for, and the room for it.
-use Rattle.std.proofs.Common.{◌≡◌, ℕ, ◌+◌, ◌^◌, ◌<◌, ◌≤◌, Bool, true, false, IsTrue, List, [], ◌∷◌, length, Option, Some, None, Result, Ok, Err, OnErr, refl, sym, ap, ◌∙◌, subst, arith}
-use Rattle.std.specs.Prelude.{nat_lt}
+-- What a birth is to the stores that the parts of a heap stand for.
+use Rattle.std.proofs.Common.{◌≡◌, ◌≢◌, ℕ, ◌+◌, ◌-◌, ◌^◌, ◌%◌, ◌<◌, ◌≤◌, Bool, true, false, List, [], ◌∷◌, Some, refl, sym, ap, ◌∙◌, subst, inl, inr, arith, append-nil, mod-eq_of_lt}
+use Rattle.std.specs.Prelude.{not, nat_lt, sum_by, if◌then◌else◌, Contains}
+use Rattle.std.proofs.lemmas.Bool.{cases_Bool, cases_lt}
 use Rattle.std.proofs.lemmas.Bool.Decides.{nat_tests}
+use Rattle.std.proofs.lemmas.List.Sums.{sum_by-cons}
+use Rattle.std.proofs.lemmas.List.Sorted.{sum_by-IsPermutation}
+use Rattle.type_table.specs.declared.info.Shape.{Shape}
+use Rattle.type_table.specs.declared.info.Shape.TheVariants.{Fixed, IntArray, RefArray, Weak}
 use Rattle.type_table.specs.declared.info.TypeInfo.{TypeInfo}
-use Rattle.type_table.specs.Table.{value_at}
+use Rattle.type_table.specs.Table.{Table, value_at}
 use Rattle.type_table.specs.Words.{words_in}
-use Rattle.heap_space.specs.Places.{lies_in_one}
-use Rattle.old_space.proofs.JoinLaws.{HasBlocks-first}
-use Rattle.store_model.specs.declared.line.Line.{Line}
-use Rattle.store_model.specs.declared.line.Line.TheVariants.{Born}
-use Rattle.store_model.specs.Setup.{Setup}
+use Rattle.heap_space.specs.Memory.{Memory}
+use Rattle.heap_space.specs.Extents.{Extent}
+use Rattle.nursery_gaps.specs.Ranges.{Range, covers, is_free, words_between}
+use Rattle.nursery_gaps.specs.Nursery.{Fits}
+use Rattle.object_header.specs.Words.{IsHeader, has_flag, with_flag}
+use Rattle.object_header.specs.declared.flags.Flag.{Flag}
+use Rattle.object_header.specs.declared.flags.Flag.TheVariants.{Track, Visited, HasShadow, Pinned, HasCards, CardsSet, Free, Shadow, Order1, Order2}
+use Rattle.object_header.proofs.HeaderLaws.{has_flag-type}
+use Rattle.object_header.proofs.WordLaws.{has_flag-with_flag_other, has_flag-with_flag_same, type_of-with_flag, IsHeader-with_flag}
+use Rattle.object_model.specs.Layout.{layout_of}
+use Rattle.object_model.specs.Newborn.{Request}
+use Rattle.object_model.specs.Shapes.{is_weak_shape}
+use Rattle.object_model.specs.ObjectWords.{words_at}
+use Rattle.object_view.proofs.NewbornLaws.{request-plain}
+use Rattle.old_space.specs.declared.Old.{Old}
+use Rattle.size_pages.specs.Calls.{page_of}
+use Rattle.rawref_links.proofs.Numbers.{Contains-from_is_in}
+use Rattle.old_space.specs.Calls.{IsElsewhere, unit_of}
 use Rattle.store_model.specs.Store.{Store}
-use Rattle.store_model.specs.Steps.{array_request}
-use Rattle.store_model.specs.Birth.{Request, with_birth, BirthOf, BirthOfType}
-use Rattle.heap_core.specs.Parts.{HeapParts, HeapSeen, heap_of}
-use Rattle.heap_core.specs.StandsFor.{PartsStandFor}
-use Rattle.heap_core.specs.Effects.{HasRoom, HasYoungRoom, HasOldRoom, TakesBlock, TakesNone, BearsOld, IsFitting, FitsOf, is_large, BearsWhere, BearsOf, with_newborn}
-use Rattle.heap_core.specs.Commands.{AreStanding, Bears, Changes}
-use Rattle.heap_core.proofs.KeepLaws.{keeps_stands}
-use Rattle.heap_core.proofs.YoungBirths.{free_at, free-lies, young_stands}
-use Rattle.heap_core.proofs.OldBirths.{old_birth, old_setup}
+use Rattle.store_model.specs.Births.{array_request}
+use Rattle.store_model.specs.Birth.{with_birth, fresh_with}
+use Rattle.heap_parts.specs.Parts.{HeapParts, word_in, home_in}
+use Rattle.heap_parts.specs.Places.{is_young, young_places, old_places}
+use Rattle.heap_parts.specs.Nursery.{IsWalk, AreWalks, walked}
+use Rattle.heap_parts.specs.OldSpace.{is_waiting, blocks_of, unit_at}
+use Rattle.heap_parts.specs.Headers.{keeps_cards}
+use Rattle.heap_parts.specs.StandsFor.{PartsStandFor}
+use Rattle.heap_parts.specs.Births.{with_newborn, BearsYoung, with_old_blocks, TakesNone, BearsOld, old_header}
+use Rattle.old_space.proofs.JoinLaws.{HasBlocks-first}
+use Rattle.heap_parts.proofs.PlaceLaws.{placed_words}
+use Rattle.heap_parts.proofs.BlockLaws.{lies-kept}
+use Rattle.heap_parts.proofs.BirthStands.{IsBornOld, with_born, weaks_with, unsettled_with}
+use Rattle.heap_parts.proofs.YoungBirths.{born_memory, young_birth_stands}
+use Rattle.heap_parts.proofs.OldBirths.{old_memory, old_birth_stands}
+use Rattle.heap_parts.proofs.SpareLaws.{take_keeps}
+use Rattle.heap_parts.proofs.TakeLaws.{MemoryKeeps}
+use Rattle.heap_parts.proofs.HomeStands.{none_stands}
+use Rattle.heap_core.specs.Commands.{PartsKeep}
 
--- the test of words, where they are more and where they are not
-more-true : (a b : ℕ) → a < b → nat_lt a b ≡ true
-more-true a b l = grind (arith, nat_tests)
+-- what a birth of an object that is not weak needs beside room
+pub record CanBear (heap : HeapParts) (type_id : ℕ) (info : TypeInfo) (items : ℕ) : Type 0 where
+  pub known : value_at heap.setup.types type_id ≡ Some info
+  pub small : type_id < 65536
+  pub plain : is_weak_shape info.shape ≡ false
+  pub limit : heap.unsettled + heap.old_words + words_in info.shape items ≤ heap.setup.settings.limit
+  pub next : heap.next + 1 < 2 ^ 63
 
-more-false : (a b : ℕ) → b ≤ a → nat_lt a b ≡ false
-more-false a b l = grind (arith, nat_tests)
-
--- an object of the type is born, in the nursery or outside it
-where_stands : (large : Bool) (heap later : HeapParts) (store : Store) (root type_id : ℕ) (info : TypeInfo) (items : ℕ)
-    → value_at heap.setup.types type_id ≡ Some info → type_id < 65536 → heap.next + 1 < 2 ^ 63 → IsFitting heap root info items
-    → BearsWhere large heap later root type_id info items → PartsStandFor heap store
-    → PartsStandFor later (with_birth large store info (array_request root type_id items))
-where_stands true heap later store root type_id info items known small next fits born s =
-    old_birth heap later store root type_id info items (record { known = known; small = small; limit = fits.limit; next = next }) born s
-where_stands false heap later store root type_id info items known small next fits born s =
-    let least = free_at heap store s in
-    subst (λ (h : HeapParts). PartsStandFor h (with_birth false store info (array_request root type_id items))) (sym born)
-    (young_stands heap store root type_id info items
-    (record { known = known; small = small; room = omega (arith, least, fits.nursery); limit = fits.limit; next = next }) s)
-
-where_setup : (large : Bool) (heap later : HeapParts) (root type_id : ℕ) (info : TypeInfo) (items : ℕ)
-    → BearsWhere large heap later root type_id info items → later.setup ≡ heap.setup
-where_setup true heap later root type_id info items born = old_setup heap later root type_id info items born
-where_setup false heap later root type_id info items born = ap (λ (h : HeapParts). h.setup) born
-
--- what it is to a store
-birth_of : (heap : HeapParts) (store : Store) (root type_id : ℕ) (info : TypeInfo) (items : ℕ) → (s : PartsStandFor heap store)
-    → BirthOf heap.setup info store (array_request root type_id items) (Born heap.next (is_large heap info items) ∷ [])
-    (with_birth (is_large heap info items) store info (array_request root type_id items))
-birth_of heap store root type_id info items s = record {
-  is_old = is_large heap info items;
-  large = λ l. more-true _ _ l;
-  small = λ l gapped. more-false _ _ l;
-  printed = ap (λ (b : ℕ). Born b (is_large heap info items) ∷ []) (sym s.next);
-  leaves = refl;
-}
-
--- what a birth of the heap is to the stores that it stands for
-pub bears : (now new : HeapSeen) (heap later : HeapParts) (found : Option TypeInfo) (root type_id items : ℕ) (before after : List Line)
-    → value_at heap.setup.types type_id ≡ found → type_id < 65536 → now ≡ heap_of heap → new ≡ heap_of later
-    → FitsOf found heap root items → BearsOf found heap later root type_id items before after
-    → Bears now new (array_request root type_id items) before after
-bears now new heap later None root type_id items before after known small is becomes fits born_as = absurd fits
-bears now new heap later (Some info) root type_id items before after known small is becomes fits born_as =
-    let request : Request = array_request root type_id items in
-    let large : Bool = is_large heap info items in
-    let lines : List Line = Born heap.next large ∷ [] in
-    let law : Bears (heap_of heap) (heap_of later) request before after = record {
-      setup = ap (λ (setup : Setup). Some setup) (where_setup large heap later root type_id info items born_as.0);
-      same_spent = refl;
-      lines = lines;
-      appended = born_as.1;
-      births = λ store s. (
-        with_birth large store info request,
-        subst (λ (f : Option TypeInfo). BirthOfType f heap.setup store request lines (with_birth large store info request)) (sym known)
-            (birth_of heap store root type_id info items s),
-        where_stands large heap later store root type_id info items known small born_as.2 fits born_as.0 s,
-      );
+-- An object is born in the nursery.
+pub young_stands : (heap new : HeapParts) (store : Store) (root type_id items : ℕ) (info : TypeInfo) (s : PartsStandFor heap store) → CanBear heap type_id info items
+    → BearsYoung heap new root type_id info items → PartsStandFor new (with_birth false store info (array_request root type_id items))
+young_stands heap new store root type_id items info s can b =
+    let n : ℕ = words_in info.shape items in let place : ℕ = b.place in
+    let low : place < 4294967296 = (let inside = b.lowest.fits.inside in let words = s.made.words in let most = s.made.ranges.1 in omega (arith, inside, words, most)) in
+    let young : is_young place ≡ true = grind (arith, nat_tests) in
+    let memory : Memory = born_memory heap place type_id items 0 info in
+    let made : with_born heap memory b.nursery heap.old_blocks place root info n
+    ≡ record (with_newborn heap place type_id root info items) { nursery = b.nursery; unsettled = heap.unsettled + n } = λ i. record (with_newborn heap place type_id root info items) {
+      nursery = b.nursery;
+      weaks = weaks_with (can.plain i) heap.weaks place;
+      unsettled = unsettled_with (not (young i)) heap.unsettled n;
+      old_words = fresh_with (not (young i)) heap.old_words n;
+      fresh = fresh_with (not (young i)) heap.fresh n;
     } in
-    subst (λ (h : HeapSeen). Bears h new request before after) (sym is)
-    (subst (λ (h : HeapSeen). Bears (heap_of heap) h request before after) (sym becomes) law)
+    subst (λ (h : HeapParts). PartsStandFor h (with_birth false store info (array_request root type_id items))) (made ∙ sym b.is)
+    (subst (λ (r : Request). PartsStandFor (with_born heap memory b.nursery heap.old_blocks place root info n) (with_birth false store info r)) (request-plain s.name root type_id items info.shape)
+    (young_birth_stands heap store s place b.nursery root type_id items 0 info (record {
+      known = can.known;
+      small = can.small;
+      target = inl refl;
+      lowest = b.lowest;
+      hands = b.hands;
+      laid = b.laid;
+      limit = can.limit;
+      next = can.next;
+    })))
 
--- where a birth fails, the heap stands for the same stores
-none_setup : (heap later : HeapParts) → TakesNone heap later → Changes (heap_of heap) (heap_of later) (λ store. store)
-none_setup heap later takes = record {
-  setup = ap (λ (h : HeapParts). Some h.setup) takes.keeps.only;
-  same_spent = refl;
-  stands = λ store s. keeps_stands heap later store takes s;
-}
+-- the header of an object that is born outside the nursery, by its flags
+flags-of : (type_id : ℕ) (cards : Bool) (f : Flag) → f ≢ Track → f ≢ HasCards → type_id < 65536 → has_flag (old_header type_id cards) f ≡ false
+flags-of type_id true f t h small =
+    has_flag-with_flag_other (with_flag type_id Track) HasCards f h ∙ (has_flag-with_flag_other type_id Track f t ∙ has_flag-type type_id f small)
+flags-of type_id false f t h small = has_flag-with_flag_other type_id Track f t ∙ has_flag-type type_id f small
 
-pub none_changes : {A E : Type 0} → (r : Result A E) (now : HeapSeen) (heap later : HeapParts) → now ≡ heap_of heap → TakesNone heap later
-    → OnErr r (Changes now (heap_of later) (λ store. store))
-none_changes (Ok a) now heap later is takes = tt
-none_changes (Err e) now heap later is takes =
-    subst (λ (h : HeapSeen). Changes h (heap_of later) (λ store. store)) (sym is) (none_setup heap later takes)
+tracked-of : (type_id : ℕ) (cards : Bool) → has_flag (old_header type_id cards) Track ≡ true
+tracked-of type_id true = has_flag-with_flag_other (with_flag type_id Track) HasCards Track (λ e. let no : ⊥ = cc in no) ∙ has_flag-with_flag_same type_id Track
+tracked-of type_id false = has_flag-with_flag_same type_id Track
 
--- there is room in the nursery for a birth that fits
-pub young_room_of : (heap : HeapParts) (root : ℕ) (info : TypeInfo) (items : ℕ) → AreStanding heap → IsFitting heap root info items
-    → HasYoungRoom heap root info items
-young_room_of heap root info items standing fits =
-    let s = standing.stands in let least = free_at heap standing.store s in
-    let room : heap.free + words_in info.shape items ≤ heap.setup.settings.nursery + 1 = omega (arith, least, fits.nursery) in record {
-      room = record {
-        slot = omega (arith, fits.root_in, s.slots.many);
-        items_few = fits.items_few;
-        words = free-lies heap standing.store (words_in info.shape items) s room;
-        next_small = s.next_high;
+cards-of : (type_id : ℕ) (cards : Bool) → type_id < 65536 → has_flag (old_header type_id cards) HasCards ≡ cards
+cards-of type_id true small = has_flag-with_flag_same (with_flag type_id Track) HasCards
+cards-of type_id false small = has_flag-with_flag_other type_id Track HasCards (λ e. let no : ⊥ = cc in no) ∙ has_flag-type type_id HasCards small
+
+type-of : (type_id : ℕ) (cards : Bool) → type_id < 65536 → old_header type_id cards % 65536 ≡ type_id
+type-of type_id true small = type_of-with_flag (with_flag type_id Track) HasCards ∙ (type_of-with_flag type_id Track ∙ mod-eq_of_lt small)
+type-of type_id false small = type_of-with_flag type_id Track ∙ mod-eq_of_lt small
+
+header-of : (type_id : ℕ) (cards : Bool) → type_id < 65536 → IsHeader (old_header type_id cards)
+header-of type_id true small = IsHeader-with_flag (with_flag type_id Track) HasCards (IsHeader-with_flag type_id Track (omega (arith, small)))
+header-of type_id false small = IsHeader-with_flag type_id Track (omega (arith, small))
+
+cards-by : (card : ℕ) (shape : Shape) (a items : ℕ) → keeps_cards card shape (layout_of shape a items).ref_count ≡ keeps_cards card shape items
+cards-by card (Fixed ints refs) a items = refl
+cards-by card IntArray a items = refl
+cards-by card RefArray a items = refl
+cards-by card Weak a items = refl
+
+born_old : (card type_id a items : ℕ) (info : TypeInfo) → type_id < 65536
+    → IsBornOld card info (layout_of info.shape a items).ref_count (old_header type_id (keeps_cards card info.shape items))
+born_old card type_id a items info small =
+    let cards : Bool = keeps_cards card info.shape items in
+    let off : (f : Flag) → f ≢ Track → f ≢ HasCards → has_flag (old_header type_id cards) f ≡ false = λ f t h. flags-of type_id cards f t h small in record {
+      settled = record {
+        live = record {
+          header = header-of type_id cards small;
+          not_free = off Free (λ e. let no : ⊥ = cc in no) (λ e. let no : ⊥ = cc in no);
+          not_order1 = off Order1 (λ e. let no : ⊥ = cc in no) (λ e. let no : ⊥ = cc in no);
+          not_order2 = off Order2 (λ e. let no : ⊥ = cc in no) (λ e. let no : ⊥ = cc in no);
+        };
+        not_shadow = off Shadow (λ e. let no : ⊥ = cc in no) (λ e. let no : ⊥ = cc in no);
+        not_has_shadow = off HasShadow (λ e. let no : ⊥ = cc in no) (λ e. let no : ⊥ = cc in no);
+        not_pinned = off Pinned (λ e. let no : ⊥ = cc in no) (λ e. let no : ⊥ = cc in no);
       };
-      free_small = omega (arith, room, s.ranges.1);
-      unsettled_small = omega (arith, fits.nursery, s.ranges.1);
+      not_visited = off Visited (λ e. let no : ⊥ = cc in no) (λ e. let no : ⊥ = cc in no);
+      track = tracked-of type_id cards;
+      cards = cards-of type_id cards small ∙ sym (cards-by card info.shape a items);
+      no_cards = off CardsSet (λ e. let no : ⊥ = cc in no) (λ e. let no : ⊥ = cc in no);
     }
 
--- a birth that fits can be counted outside it
-pub old_room_of : (heap : HeapParts) (root : ℕ) (info : TypeInfo) (items : ℕ) → AreStanding heap → IsFitting heap root info items
-    → HasOldRoom heap root info items
-old_room_of heap root info items standing fits =
-    let s = standing.stands in let ranges = s.ranges in record {
-      slot = omega (arith, fits.root_in, s.slots.many);
-      items_few = fits.items_few;
-      stands = record { live = _; waiting = []; blocks = s.blocks.live };
-      next_small = s.next_high;
-      old_small = omega (arith, fits.limit, ranges.2.2.1);
-      fresh_small = omega (arith, fits.limit, s.fresh_old, ranges.2.2.1);
-    }
+-- a unit that was told not to wait does not
+not-waiting : (page : ℕ) (old_blocks : Old) (waiting : List ℕ) (place : ℕ) → old_blocks.pages.page ≡ page → IsElsewhere old_blocks waiting place
+    → is_waiting page waiting place ≡ false
+not-waiting page old_blocks waiting place is elsewhere = elim (cases_Bool (is_waiting page waiting place)) [
+  | inl waits ↦
+      let unit : unit_at page place ≡ unit_of old_blocks place = ap (λ (k : ℕ). if nat_lt place 1099511627776 then page_of k place else place) (sym is) in
+      absurd (elsewhere (subst (λ (u : ℕ). Contains waiting u) unit (Contains-from_is_in (unit_at page place) waiting waits)))
+  | inr out ↦ out
+]
 
--- there is room in a block that was taken for a birth
-pub taken_room : (heap middle : HeapParts) (n place root : ℕ) (info : TypeInfo) (items : ℕ) → HasOldRoom heap root info items → n ≡ words_in info.shape items
-    → TakesBlock heap middle n place → HasRoom middle place root info items
-taken_room heap middle n place root info items room size takes =
-    let only = takes.keeps.only in
-    let slots : middle.slots ≡ heap.slots = ap (λ (h : HeapParts). h.slots) only in
-    let next : middle.next ≡ heap.next = ap (λ (h : HeapParts). h.next) only in
-    let stands = room.stands in
-    let blocks = takes.taken stands.live stands.waiting stands.blocks in record {
-      slot = subst (λ (xs : List ℕ). root < length xs) (sym slots) room.slot;
-      items_few = room.items_few;
-      words = subst (λ (k : ℕ). IsTrue (lies_in_one middle.memory.blocks place k)) size
-          (HasBlocks-first middle.old_blocks middle.memory (place, n) stands.live stands.waiting blocks).lies;
-      next_small = omega (arith, next, room.next_small);
-    }
+-- An object is born outside the nursery.
+pub old_stands : (heap new : HeapParts) (store : Store) (root type_id items : ℕ) (info : TypeInfo) (s : PartsStandFor heap store) → CanBear heap type_id info items
+    → BearsOld heap new root type_id info items → PartsStandFor new (with_birth true store info (array_request root type_id items))
+old_stands heap new store root type_id items info s can b =
+    let n : ℕ = words_in info.shape items in let place : ℕ = b.place in let middle : HeapParts = b.middle in
+    let head : ℕ = old_header type_id (keeps_cards heap.setup.settings.card info.shape items) in
+    let keeps = b.takes.keeps in
+    let words : heap.nursery.words ≤ 1048576 = omega (arith, s.made.words, s.made.ranges.1) in
+    let taken : MemoryKeeps heap.setup.types heap.memory middle.memory heap.nursery middle.old_blocks (home_in heap) ((place, n) ∷ []) s.places s.husks s.waiting =
+    take_keeps n place s.words words (record { kept = keeps.kept; taken = b.takes.taken; outside = keeps.outside }) in
+    let live : List Extent = blocks_of heap.setup.types (word_in heap) (home_in heap) (young_places s.places) (old_places s.places) s.husks [] in
+    let elsewhere : is_waiting heap.setup.settings.page s.waiting place ≡ false =
+    not-waiting heap.setup.settings.page middle.old_blocks s.waiting place (keeps.page ∙ s.made.page) (b.takes.elsewhere live s.waiting s.words.blocks) in
+    let low : 4294967296 ≤ place = (HasBlocks-first middle.old_blocks middle.memory (place, n) live s.waiting (b.takes.taken live s.waiting s.words.blocks)).low in
+    let old : is_young place ≡ false = grind (arith, nat_tests) in
+    let memory : Memory = old_memory middle.memory place head items 0 info heap.next in
+    let made : with_born heap memory heap.nursery middle.old_blocks place root info n
+    ≡ record (with_newborn (with_old_blocks heap middle.old_blocks middle.memory) place head root info items) { old_words = heap.old_words + n; fresh = heap.fresh + n } = λ i.
+    record (with_newborn (with_old_blocks heap middle.old_blocks middle.memory) place head root info items) {
+      weaks = weaks_with (can.plain i) heap.weaks place;
+      unsettled = unsettled_with (not (old i)) heap.unsettled n;
+      old_words = fresh_with (not (old i)) heap.old_words n;
+      fresh = fresh_with (not (old i)) heap.fresh n;
+    } in
+    let back : record (with_newborn (with_old_blocks heap middle.old_blocks middle.memory) place head root info items) { old_words = heap.old_words + n; fresh = heap.fresh + n } ≡ new =
+    ap (λ (h : HeapParts). record (with_newborn h place head root info items) { old_words = h.old_words + n; fresh = h.fresh + n }) (sym keeps.only) ∙ sym b.is in
+    subst (λ (h : HeapParts). PartsStandFor h (with_birth true store info (array_request root type_id items))) (made ∙ back)
+    (subst (λ (r : Request). PartsStandFor (with_born heap memory heap.nursery middle.old_blocks place root info n) (with_birth true store info r)) (request-plain s.name root type_id items info.shape)
+    (old_birth_stands heap store s middle.memory middle.old_blocks place head root type_id items 0 info (record {
+      known = can.known;
+      target = inl refl;
+      keeps = taken;
+      elsewhere = elsewhere;
+      type = type-of type_id (keeps_cards heap.setup.settings.card info.shape items) can.small;
+      first = born_old heap.setup.settings.card type_id place items info can.small;
+      made = (keeps.arenas, keeps.small, keeps.page);
+      limit = can.limit;
+      next = can.next;
+    })))
 
--- an object is born there, and its words are counted
-pub bears_old : (heap middle new : HeapParts) (n place root type_id : ℕ) (info : TypeInfo) (items : ℕ) → TakesBlock heap middle n place
-    → n ≡ words_in info.shape items → new ≡ with_newborn middle place root type_id info items
-    → BearsOld heap (record new { old_words = new.old_words + n; fresh = new.fresh + n }) root type_id info items
-bears_old heap middle new n place root type_id info items takes size is = record {
-  middle = middle;
-  place = place;
-  takes = subst (λ (k : ℕ). TakesBlock heap middle k place) size takes;
-  bears = ap (λ (h : HeapParts). record h { old_words = h.old_words + n; fresh = h.fresh + n }) is
-      ∙ ap (λ (k : ℕ). record (with_newborn middle place root type_id info items) { old_words = middle.old_words + k; fresh = middle.fresh + k }) size;
+-- No block was taken: the parts stand for the same stores.
+pub none_keeps : (heap new : HeapParts) → TakesNone heap new → PartsKeep heap new
+none_keeps heap new t = record {
+  setup = ap (λ (h : HeapParts). h.setup) t.keeps.only;
+  stands = λ store s.
+      let k = t.keeps in
+      let words : heap.nursery.words ≤ 1048576 = omega (arith, s.made.words, s.made.ranges.1) in
+      let live : List Extent = blocks_of heap.setup.types (word_in heap) (home_in heap) (young_places s.places) (old_places s.places) s.husks [] in
+      subst (λ (h : HeapParts). PartsStandFor h store) (sym k.only)
+      (none_stands heap store new.memory new.old_blocks s (record {
+        small = words;
+        low_words = λ b l. k.outside.below.words b (omega arith) l tt;
+        low_lies = lies-kept heap.memory new.memory 4294967296 1 heap.nursery.words k.outside.below.blocks (omega arith) s.words.young.whole;
+        live_words = k.kept live s.waiting s.words.blocks;
+        blocks = t.same live s.waiting s.words.blocks;
+      }) (k.arenas, k.small, k.page));
 }
 
--- the objects of the nursery have no more words than it
-pub unsettled_fits : (heap : HeapParts) → AreStanding heap → heap.unsettled ≤ heap.setup.settings.nursery
-unsettled_fits heap standing =
-    let s = standing.stands in let least = free_at heap standing.store s in omega (arith, least, s.nursery.room)
+-- objects in a row take the words between the ends of the row
+walk-sum : (types : Table TypeInfo) (w : ℕ → ℕ) (from end : ℕ) (places : List ℕ) → IsWalk types w from places end → end ≡ from + sum_by (words_at types w) places
+walk-sum types w from end [] walk = sym walk ∙ (let e : from ≡ from + 0 = omega arith in e)
+walk-sum types w from end (p ∷ places) walk =
+    let here : words_at types w from ≡ words_at types w p = ap (words_at types w) (sym walk.0) in
+    let more = walk-sum types w (from + words_at types w p) end places walk.1 in
+    omega (arith, more, sum_by-cons (words_at types w) p places)
+
+-- what was handed out, where that is one range from word 1 on
+handed-out : (types : Table TypeInfo) (w : ℕ → ℕ) (cursor : ℕ) (walks : List (List ℕ)) → 1 ≤ cursor → AreWalks types w (words_between 1 cursor) walks
+    → cursor ≡ 1 + sum_by (words_at types w) (walked walks)
+handed-out types w cursor walks l h = elim (cases_lt 1 cursor) [
+  | inl some ↦ in-one walks (subst (λ (rs : List Range). AreWalks types w rs walks) (let e : words_between 1 cursor ≡ (1, cursor - 1) ∷ [] = grind (arith, nat_tests) in e) h)
+  | inr none ↦ in-none walks (omega (arith, l, none)) (subst (λ (rs : List Range). AreWalks types w rs walks) (let e : words_between 1 cursor ≡ [] = grind (arith, nat_tests) in e) h)
+]
+  where
+    in-one : (walks : List (List ℕ)) → AreWalks types w ((1, cursor - 1) ∷ []) walks → cursor ≡ 1 + sum_by (words_at types w) (walked walks)
+    in-one [] h = absurd h
+    in-one (ps ∷ []) h =
+        let sum = walk-sum types w 1 (1 + (cursor - 1)) ps h.0 in
+        let all : sum_by (words_at types w) (walked (ps ∷ [])) ≡ sum_by (words_at types w) ps = ap (sum_by (words_at types w)) (append-nil ps) in
+        omega (arith, sum, l, all)
+    in-one (ps ∷ (qs ∷ more)) h = absurd h.1
+
+    in-none : (walks : List (List ℕ)) → cursor ≡ 1 → AreWalks types w [] walks → cursor ≡ 1 + sum_by (words_at types w) (walked walks)
+    in-none [] is h = is
+    in-none (ps ∷ walks) is h = absurd h
+
+-- behind what was handed out all words are free
+free-behind : (cursor word : ℕ) → cursor ≤ word → is_free (words_between 1 cursor) word ≡ true
+free-behind cursor word l = elim (cases_lt 1 cursor) [
+  | inl some ↦ (let e : words_between 1 cursor ≡ (1, cursor - 1) ∷ [] = grind (arith, nat_tests) in
+      let out : covers (1, cursor - 1) word ≡ false = grind (arith, nat_tests) in rw (e, out) refl)
+  | inr none ↦ (let e : words_between 1 cursor ≡ [] = grind (arith, nat_tests) in rw e refl)
+]
+
+-- Where no object was pinned, a birth for which there are words has a place.
+pub room_ungapped : (heap : HeapParts) (store : Store) (s : PartsStandFor heap store) (n : ℕ) → heap.gapped ≡ false → heap.unsettled + n ≤ heap.setup.settings.nursery
+    → Fits heap.nursery n heap.nursery.cursor
+room_ungapped heap store s n ungapped fits =
+    let types = heap.setup.types in let w : ℕ → ℕ = word_in heap in
+    let un = s.ungapped ungapped in let laid = s.words.young.laid_out in
+    let cursor : ℕ = heap.nursery.cursor in
+    let least : 1 ≤ cursor = (let passed = laid.passed in omega (arith, passed, un.0)) in
+    let sum : cursor ≡ 1 + sum_by (words_at types w) (walked s.words.young.walks) =
+    handed-out types w cursor s.words.young.walks least (subst (λ (rs : List Range). AreWalks types w rs s.words.young.walks) un.1 s.words.young.walk) in
+    let same : sum_by (words_at types w) (walked s.words.young.walks) ≡ sum_by (words_at types w) (young_places s.places) =
+    sym (sum_by-IsPermutation (words_at types w) (walked s.words.young.walks) (young_places s.places) s.words.young.just) in
+    let words = placed_words store.settled s.words.objects s.births.settled_are in
+    record {
+      reached = omega arith;
+      inside = omega (arith, sum, same, words.unsettled, s.sums.unsettled_are, s.made.words, fits);
+      free = λ word l r. subst (λ (rs : List Range). is_free rs word ≡ true) (sym un.1) (free-behind cursor word l);
+    }

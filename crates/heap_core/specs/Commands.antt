@@ -1,23 +1,23 @@
 -- What the calls of a heap ask, and what they do to each store that the heap stands for.
-use Rattle.std.specs.Prelude.{◌≡◌, ℕ, Bool, true, false, List, ◌++◌, Option, Some, None, option_map, Result, Ok, Err, ◌⊎◌}
+use Rattle.std.specs.Prelude.{◌≡◌, ℕ, Bool, true, false, List, ◌++◌, Option, Some, None, option_map, Result, Ok, Err}
 use Rattle.type_table.specs.declared.info.TypeInfo.{TypeInfo}
 use Rattle.type_table.specs.Table.{Table, value_at}
-use Rattle.store_model.specs.declared.command.Command.{Command}
-use Rattle.store_model.specs.declared.command.Command.TheVariants.{NewFixed, NewArray}
-use Rattle.store_model.specs.declared.line.Line.{Line}
-use Rattle.store_model.specs.declared.settings.Settings.{Settings}
-use Rattle.store_model.specs.declared.structure.StructState.TheVariants.{Absent}
-use Rattle.store_model.specs.Setup.{Setup}
+use Rattle.text_model.specs.declared.command.Command.{Command}
+use Rattle.text_model.specs.declared.line.Line.{Line}
+use Rattle.object_model.specs.declared.settings.Settings.{Settings}
+use Rattle.object_model.specs.declared.structure.StructState.TheVariants.{Absent}
+use Rattle.object_model.specs.Setup.{Setup}
 use Rattle.store_model.specs.Store.{Store}
+use Rattle.store_model.specs.Steps.{Does}
 use Rattle.store_model.specs.Checks.{first_reason}
 use Rattle.store_model.specs.Look.{Look}
-use Rattle.store_model.specs.Refusal.{command_checks}
-use Rattle.store_model.specs.Birth.{Request, Birth}
+use Rattle.store_model.specs.Unbuilt.{Room, program_checks}
 use Rattle.heap_core.specs.declared.fault.HeapFault.{HeapFault}
 use Rattle.heap_core.specs.declared.fault.HeapFault.TheVariants.{Spent, OutOfMemory}
-use Rattle.heap_core.specs.Parts.{HeapParts, HeapSeen, heap_of, AreFresh}
-use Rattle.heap_core.specs.Told.{told}
-use Rattle.heap_core.specs.StandsFor.{PartsStandFor, StandsFor}
+use Rattle.heap_parts.specs.Parts.{HeapParts, AreFresh}
+use Rattle.heap_parts.specs.Told.{told, room_told}
+use Rattle.heap_parts.specs.StandsFor.{PartsStandFor}
+use Rattle.heap_core.specs.Heap.{HeapSeen, heap_of, StandsFor}
 
 -- the parts stand for some store
 pub record AreStanding (parts : HeapParts) : Type 0 where
@@ -27,12 +27,23 @@ pub record AreStanding (parts : HeapParts) : Type 0 where
 -- they do, and the command is not refused there
 pub record AreReady (parts : HeapParts) (command : Command) : Type 0 where
   pub standing : AreStanding parts
-  pub accepted : first_reason (command_checks parts.setup (told parts) command) ≡ None
+  pub accepted : first_reason (program_checks parts.setup (told parts) (room_told parts) command) ≡ None
 
 -- something holds of the parts of a heap that was started and is not spent
 abbrev pub OfParts : Option HeapParts → (HeapParts → Type 0) → Type 0
 OfParts None P = ⊥
 OfParts (Some parts) P = P parts
+
+-- The parts do the command, with these lines: settings and types stay, and for each store that they stood for there is one that
+-- the command may leave with these lines, and that they stand for now.
+pub record PartsDo (old new : HeapParts) (command : Command) (lines : List Line) : Type 0 where
+  pub setup : new.setup ≡ old.setup
+  pub does : (store : Store) → PartsStandFor old store → (later : Store) × Does old.setup store command lines later × PartsStandFor new later
+
+-- Settings and types stay, and the parts stand for each store that they stood for.
+pub record PartsKeep (old new : HeapParts) : Type 0 where
+  pub setup : new.setup ≡ old.setup
+  pub stands : (store : Store) → PartsStandFor old store → PartsStandFor new store
 
 -- the heap was started, is not spent, and stands for some store
 abbrev pub IsStanding : HeapSeen → Type 0
@@ -45,15 +56,6 @@ CanDoIf false parts command = OfParts parts (λ found. AreReady found command)
 -- the heap is spent, or was started and stands for a store in which the command is not refused
 abbrev pub CanDo : HeapSeen → Command → Type 0
 CanDo heap command = CanDoIf heap.is_spent heap.parts command
-
--- the same of a birth: of a fixed object, which has no items of its own choice, or of an array of so many
-abbrev pub CanBear : HeapSeen → ℕ → ℕ → ℕ → Type 0
-CanBear heap root type_id items = CanDo heap (NewArray root type_id items) ⊎ ((items ≡ 0) × CanDo heap (NewFixed root type_id))
-
--- how a call fails that can only want memory, but on a spent heap
-abbrev pub fault_of : Bool → HeapFault
-fault_of true = Spent
-fault_of false = OutOfMemory
 
 -- the settings and types of a heap that was started
 abbrev pub setup_in : HeapSeen → Option Setup
@@ -71,9 +73,6 @@ nothing_told = record {
   was_registered = λ root. false;
   has_p_link = λ root. false;
   structure = λ number. Absent;
-  unsettled = 0;
-  fresh = 0;
-  kept = 0;
 }
 
 abbrev pub told_if : Option HeapParts → Look
@@ -83,6 +82,19 @@ told_if (Some parts) = told parts
 -- what a caller can be told of a heap
 abbrev pub told_by : HeapSeen → Look
 told_by heap = told_if heap.parts
+
+abbrev pub room_if : Option HeapParts → Room
+room_if None = record { unsettled = 0; fresh = 0; counted = 0 }
+room_if (Some parts) = room_told parts
+
+-- the words that a caller can be told of
+abbrev pub room_by : HeapSeen → Room
+room_by heap = room_if heap.parts
+
+-- how a call fails that can only be out of memory, but on a spent heap
+abbrev pub fault_of : Bool → HeapFault
+fault_of true = Spent
+fault_of false = OutOfMemory
 
 -- a call that is done, but on a spent heap
 abbrev pub done_unless : Bool → Result (Unit {0}) HeapFault
@@ -95,17 +107,18 @@ pub record IsFresh (heap : HeapSeen) (settings : Settings) (types : Table TypeIn
   pub is : heap ≡ heap_of parts
   pub fresh : AreFresh parts settings types
 
--- settings and types stay, and each store that the heap stood for becomes this one
-pub record Changes (old new : HeapSeen) (change : Store → Store) : Type 0 where
-  pub setup : setup_in new ≡ setup_in old
-  pub same_spent : new.is_spent ≡ old.is_spent
-  pub stands : (store : Store) → StandsFor old store → StandsFor new (change store)
-
--- an object is born for the request, its lines are appended, and the heap stands for the store with it
-pub record Bears (old new : HeapSeen) (request : Request) (before after : List Line) : Type 0 where
+-- The heap does the command and appends its lines: settings and types stay, and for each store that the heap stood for there is
+-- one that the command may leave with these lines, and that the heap stands for now.
+pub record Performs (old new : HeapSeen) (command : Command) (before after : List Line) : Type 0 where
   pub setup : setup_in new ≡ setup_in old
   pub same_spent : new.is_spent ≡ old.is_spent
   pub lines : List Line
   pub appended : after ≡ before ++ lines
-  pub births : (store : Store) → StandsFor old store → (later : Store)
-      × OfParts old.parts (λ parts. Birth parts.setup store request lines later) × StandsFor new later
+  pub does : (store : Store) → StandsFor old store → (later : Store)
+      × OfParts old.parts (λ parts. Does parts.setup store command lines later) × StandsFor new later
+
+-- Nothing that a script can tell changes: settings and types stay, and the heap stands for each store that it stood for.
+pub record Keeps (old new : HeapSeen) : Type 0 where
+  pub setup : setup_in new ≡ setup_in old
+  pub same_spent : new.is_spent ≡ old.is_spent
+  pub stands : (store : Store) → StandsFor old store → StandsFor new store

@@ -1,7 +1,6 @@
-pub mod Parts
-pub mod Told
-pub mod StandsFor
-pub mod Effects
+pub mod Heap
 pub mod Commands
+pub mod StructLines
 pub mod Seen
-pub mod Code
+pub mod Bearing
+pub mod Pinning

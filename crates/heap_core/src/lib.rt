@@ -1,12 +1,17 @@
-//! The heap of a script: objects in words, and root slots that lead to them.
+//! The heap of a script: objects in words, and root slots that lead to them. A file for each family of calls.
 #![tactic(auto)]
 
+mod births;
 mod fault;
+mod fields;
 mod heap;
-mod parts;
+mod identity;
+mod pinning;
+mod slots;
+mod structures;
+mod tellers;
+mod usage;
 
 pub use fault::HeapFault;
 pub use heap::Heap;
-
-#[cfg(test)]
-mod tests;
+pub use rawref_links::Dec;

@@ -35,6 +35,8 @@ pub record FilesInMemory : Type 0 where
   pub files : List NamedBytes
   -- the bytes that are still to be read of the file begun last; none before the first is begun
   pub rest : List ℕ
+  -- how many files were begun
+  pub begun : ℕ
   pub calls : CallCounts
 
 -- A call that begins a file is to fail, or no file has the name.

@@ -58,6 +58,8 @@ impl<R: std::rt::Files> Files for DiskFiles<R> {
 
     ghost faults = { λ d. d };
 
+    ghost begun = { λ _. None };
+
     ghost may_begin = { λ _ _. true };
 
     fn begin_file(&mut self, name: &[u8]) -> Result<(), Failed>

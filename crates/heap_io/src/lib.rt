@@ -16,7 +16,7 @@ mod tests;
 ghost use Rattle.std.specs.Prelude.{◌≡◌, ◌<◌, ◌≤◌, ℕ, Bool, List, Option, IfOk, IsTrue, OnOk, length};
 ghost use Rattle.std.specs.Io.{ReadsAtMost};
 ghost use Rattle.std.specs.Io.KnownBytes.{ReadConsumes, WriteAppends};
-ghost use Rattle.heap_io.specs.Causes.{HasCause};
+ghost use Rattle.heap_io.specs.Causes.{HasCause, CountsBegun};
 
 pub use disk::{DiskFiles, StdSink};
 pub use memory::{MemFiles, MemSink, NamedFile};
@@ -47,16 +47,20 @@ pub trait Files {
     /// How often a call has failed. The count never falls, and stands still at the greatest `u64`.
     ghost faults: { Self → ℕ };
 
+    /// How many files were begun, where that is told. The count never falls, and stands still at the greatest `u64`.
+    ghost begun: { Self → Option ℕ };
+
     /// Whether a name may be begun. No call changes it.
     ghost may_begin: { Self → List ℕ → Bool };
 
     /// Begins the file of a name: its bytes are then the rest.
     ///
-    /// It fails only where the count of faults rises. No byte of the name is then taken, and nothing
-    /// is said of the rest.
+    /// It fails only where the count of faults rises. No byte of the name is then taken, the file does not count as begun,
+    /// and nothing is said of the rest.
     fn begin_file(&mut self, name: &[u8]) -> Result<(), Failed>
         requires { IsTrue (may_begin self.old name.now) }
         ensures begun { OnOk result (rest self.new ≡ bytes self.old name.now) }
+        ensures counted { CountsBegun (begun self.old) (begun self.new) result }
         ensures bytes { bytes self.new ≡ bytes self.old }
         ensures may_begin { may_begin self.new ≡ may_begin self.old }
         ensures cause { HasCause (faults self.old) (faults self.new) result };
@@ -69,6 +73,7 @@ pub trait Files {
         requires { 0 < length buf.old }
         ensures bound { ReadsAtMost result buf.new }
         ensures taken { ReadConsumes (rest self.old) (rest self.new) result buf.new }
+        ensures counted { begun self.new ≡ begun self.old }
         ensures bytes { bytes self.new ≡ bytes self.old }
         ensures may_begin { may_begin self.new ≡ may_begin self.old }
         ensures cause { HasCause (faults self.old) (faults self.new) result };

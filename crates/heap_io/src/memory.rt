@@ -6,7 +6,7 @@ ghost use Rattle.std.specs.Prelude.{◌≡◌, ◌+◌, ◌<◌, ◌≤◌, ◌�
 ghost use Rattle.std.specs.Io.{ReadsAtMost};
 ghost use Rattle.std.specs.Io.KnownBytes.{ReadConsumes};
 ghost use Rattle.heap_io.specs.Calls.{IsToFail, after_fault, after_success, before_calls};
-ghost use Rattle.heap_io.specs.Causes.{HasCause};
+ghost use Rattle.heap_io.specs.Causes.{HasCause, next_count};
 ghost use Rattle.heap_io.specs.Memory.{BeginFails, WriteFails, bytes_of, bytes_or_none, left_of, names_differ};
 
 use crate::calls::Calls;
@@ -37,6 +37,7 @@ pub struct MemFiles {
     files: Vec<NamedFile>,
     current: usize,
     at: usize,
+    begun: u64,
     calls: Calls,
 }
 
@@ -49,6 +50,7 @@ impl Model for MemFiles {
     ghost view = { λ m. record {
       files = m.files.items;
       rest = left_of m.files.items m.current m.at;
+      begun = m.begun;
       calls = m.calls;
     } };
 
@@ -60,13 +62,14 @@ impl MemFiles {
     /// Files of which none is begun yet, so that nothing is left to be read.
     pub fn new(files: Vec<NamedFile>, fails: Vec<u64>) -> MemFiles
         requires { IsTrue (names_differ files.items) }
-        ensures { result ≡ record { files = files.items; rest = []; calls = before_calls fails.items } }
+        ensures { result ≡ record { files = files.items; rest = []; begun = 0; calls = before_calls fails.items } }
     {
         let current = files.len();
         MemFiles {
             files,
             current,
             at: 0,
+            begun: 0,
             calls: Calls::new(fails),
         }
     }
@@ -89,6 +92,8 @@ impl Files for MemFiles {
 
     ghost faults = { λ m. m.calls.faults };
 
+    ghost begun = { λ m. Some m.begun };
+
     ghost may_begin = { λ _ _. true };
 
     /// Begins the file of a name. It fails exactly where the call is on the list or no file has the
@@ -98,6 +103,7 @@ impl Files for MemFiles {
         ensures begun { OnOk result (Some self.new.rest ≡ bytes_of self.old.files name.now) }
         ensures files { self.new.files ≡ self.old.files }
         ensures ok { OnOk result (self.new.calls ≡ after_success self.old.calls) }
+        ensures counted { OnOk result (self.new.begun ≡ next_count self.old.begun) }
         ensures err { OnErr result (self.new ≡ record self.old { calls = after_fault self.old.calls }) }
         ensures cause { HasCause self.old.calls.faults self.new.calls.faults result }
     {
@@ -107,6 +113,7 @@ impl Files for MemFiles {
         };
         self.current = index;
         self.at = 0;
+        self.begun = self.begun.saturating_add(1);
         Ok(())
     }
 
@@ -119,6 +126,7 @@ impl Files for MemFiles {
         ensures bound { ReadsAtMost result buf.new }
         ensures taken { ReadConsumes (Some self.old.rest) (Some self.new.rest) result buf.new }
         ensures files { self.new.files ≡ self.old.files }
+        ensures counted { self.new.begun ≡ self.old.begun }
         ensures ok { OnOk result (self.new.calls ≡ after_success self.old.calls) }
         ensures err { OnErr result (self.new ≡ record self.old { calls = after_fault self.old.calls }) }
         ensures cause { HasCause self.old.calls.faults self.new.calls.faults result }
@@ -177,7 +185,7 @@ impl Model for MemSink {
 }
 
 impl MemSink {
-    /// A sink for so many bytes. All its memory is taken here.
+    /// A sink for so many bytes. All its memory is allocated here.
     pub fn new(alloc: Global, room: usize, fails: Vec<u64>) -> Result<MemSink, AllocError>
         ensures { IfOk result (λ sink.
             sink ≡ record { written = []; room = room; calls = before_calls fails.items }) }

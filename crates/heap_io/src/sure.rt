@@ -38,13 +38,15 @@ impl SureFiles {
 }
 
 impl Files for SureFiles {
-    ghost use Rattle.std.specs.Prelude.{Some, true};
+    ghost use Rattle.std.specs.Prelude.{Some, None, true};
 
     ghost bytes = { λ f _. Some f.bytes };
 
     ghost rest = { λ f. Some f.rest };
 
     ghost faults = { λ _. 0 };
+
+    ghost begun = { λ _. None };
 
     ghost may_begin = { λ _ _. true };
 

@@ -33,7 +33,7 @@ pub struct Large {
 impl Large {
     ghost use Rattle.large_objects.specs.Large.{HasBlocks, Stands, IsLive, NoneWaits, IsNext, waiting_count};
 
-    /// No block. The error is want of memory, which does not come as long as this takes none.
+    /// No block. The error is out of memory, which does not come as long as this allocates nothing.
     pub fn new(alloc: Global) -> Result<Large, AllocError>
         ensures { IfOk result (λ large. (m : Memory) → larges_of m ≡ [] → HasBlocks large m [] []) }
     {
@@ -48,7 +48,7 @@ impl Large {
     /// Adds a block of n words, all 0, to the space, and answers its place. It lies above all others
     /// and does not wait.
     ///
-    /// The error is want of memory. Blocks and words are then as they were; the next block's place may
+    /// The error is out of memory. Blocks and words are then as they were; the next block's place may
     /// have moved on.
     pub fn take(&mut self, space: &mut Space, n: u64) -> Result<u64, AllocError>
         requires stands { Stands self.old space.old }
@@ -76,7 +76,7 @@ impl Large {
         }
     }
 
-    /// Takes the block, which is live, off the space. It takes no memory.
+    /// Takes the block, which is live, off the space. It does not allocate.
     pub fn give_back(&mut self, space: &mut Space, a: u64, n: u64)
         requires { IsLive self.old space.old (a, n) }
         ensures stands { Stands self.new space.new }
@@ -91,7 +91,7 @@ impl Large {
         space.drop_large(a);
     }
 
-    /// Appends the live blocks, as places and words, by rising place. After the error, which is want
+    /// Appends the live blocks, as places and words, by rising place. After the error, which is out
     /// of memory, the list is as it was.
     pub fn live_blocks(&self, space: &Space, out: &mut Vec<(u64, u64)>) -> Result<(), AllocError>
         requires { Stands self.now space.now }
@@ -105,7 +105,7 @@ impl Large {
         Ok(())
     }
 
-    /// Each block that is there waits from then on. It takes no memory.
+    /// Each block that is there waits from then on. It does not allocate.
     pub fn begin_sweep(&mut self, space: &mut Space)
         requires { NoneWaits self.old space.old }
         ensures stands { Stands self.new space.new }
@@ -120,7 +120,7 @@ impl Large {
     /// Sweeps the waiting block of lowest place. Where its object was neither visited nor is a reserved
     /// home, the object's birth is appended and the block goes; else it is not visited any more.
     ///
-    /// The error is want of memory, and changes nothing.
+    /// The error is out of memory, and changes nothing.
     pub fn sweep_block(&mut self, space: &mut Space, freed: &mut Vec<u64>) -> Result<(), AllocError>
         requires stands { Stands self.old space.old }
         requires some { 0 < waiting_count self.old }
@@ -187,7 +187,7 @@ impl Large {
         self.waiting
     }
 
-    /// Whether the block at a, which is live, waits. It takes no memory.
+    /// Whether the block at a, which is live, waits. It does not allocate.
     pub fn waits(&self, space: &Space, a: u64) -> bool
         requires { (n : ℕ) × IsLive self.now space.now (a, n) }
         ensures { (live : List Extent) (waiting : List ℕ) → HasBlocks self.now space.now live waiting → IsTrue result ↔ Contains waiting a }

@@ -6,7 +6,7 @@ use Rattle.std.proofs.lemmas.Bool.{and_parts, and_from, lt-ltb, cond_both}
 use Rattle.std.proofs.lemmas.Bool.Decides.{nat_tests}
 use Rattle.std.proofs.lemmas.List.{length_push, take_more, take_all, get_or-take, get_or_append_left, length-take-le}
 use Rattle.std.proofs.lemmas.Fmt.{decimal_by_steps, decimal_digit, decimal_step}
-use Rattle.store_model.specs.Numbers.{is_digit, all_digits, value_of, digits_number, number_of}
+use Rattle.text_model.specs.Numbers.{is_digit, all_digits, value_of, digits_number, number_of}
 
 and_assoc : (x y z : Bool) → (x && (y && z)) ≡ (x && y && z)
 and_assoc true y z = refl

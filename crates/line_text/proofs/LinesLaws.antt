@@ -5,13 +5,13 @@ use Rattle.std.specs.List.{All}
 use Rattle.std.proofs.lemmas.Bool.{and_parts, and_from, not-true}
 use Rattle.std.proofs.lemmas.Bool.Decides.{nat_tests}
 use Rattle.std.proofs.lemmas.List.Elements.{All-head, All-tail}
-use Rattle.store_model.specs.declared.line.Line.{Line}
-use Rattle.store_model.specs.declared.line.Line.TheVariants.{Born, Got, Loaded, SameAs, IdentIs, HashIs, PlaceIs, PinIs, Derefed, NextIs, CountIs, FromObjIs, ToObjIs, NextDeadIs, Dealloc, UsedIs, MinorDone, Cleared, Destroyed, LinkCut, Stepped, Visited, Kept, Freed, Queued, ThresholdIs}
-use Rattle.store_model.specs.declared.line.Fate.{Fate}
-use Rattle.store_model.specs.declared.line.Fate.TheVariants.{Unlinked, Pending, Released}
-use Rattle.store_model.specs.declared.line.Phase.{Phase}
-use Rattle.store_model.specs.declared.line.Phase.TheVariants.{Scanning, Marking, Sweeping, Finalizing}
-use Rattle.store_model.specs.Text.{words_text, lines_text, phase_text, end_text, IsProper}
+use Rattle.text_model.specs.declared.line.Line.{Line}
+use Rattle.text_model.specs.declared.line.Line.TheVariants.{Born, Got, Loaded, SameAs, IdentIs, HashIs, PlaceIs, PinIs, Derefed, NextIs, CountIs, FromObjIs, ToObjIs, NextDeadIs, Dealloc, UsedIs, MinorDone, Cleared, Destroyed, LinkCut, Stepped, Visited, Kept, Freed, Queued, ThresholdIs}
+use Rattle.text_model.specs.declared.line.Fate.{Fate}
+use Rattle.text_model.specs.declared.line.Fate.TheVariants.{Unlinked, Pending, Released}
+use Rattle.text_model.specs.declared.line.Phase.{Phase}
+use Rattle.text_model.specs.declared.line.Phase.TheVariants.{Scanning, Marking, Sweeping, Finalizing}
+use Rattle.text_model.specs.Text.{words_text, lines_text, phase_text, end_text, IsProper}
 use Rattle.line_text.specs.Spelling.{IsInRange, IsLine}
 use Rattle.line_text.proofs.WordLaws.{lacks}
 use Rattle.line_text.proofs.SpellingLaws.{decimal_lacks, words_text-injective}

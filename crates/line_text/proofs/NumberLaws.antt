@@ -8,7 +8,7 @@ use Rattle.std.proofs.lemmas.Bool.Decides.{nat_tests}
 use Rattle.std.proofs.lemmas.Str.{IsUtf8-from_ascii}
 use Rattle.std.proofs.lemmas.Str.Ascii.{IsAscii-nil, IsAscii-cons}
 use Rattle.std.proofs.lemmas.Str.Parse.{IsNumeralModel, numerals_by_weight, parse_plain}
-use Rattle.store_model.specs.Numbers.{is_digit, all_digits, value_of, digits_number, number_of}
+use Rattle.text_model.specs.Numbers.{is_digit, all_digits, value_of, digits_number, number_of}
 
 pub number_of-empty : (word : List ℕ) → length word ≡ 0 → number_of word ≡ None
 unfolding number_of

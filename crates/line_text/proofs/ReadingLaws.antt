@@ -3,14 +3,14 @@ use Rattle.std.proofs.Common.{◌≡◌, ℕ, ◌^◌, ◌<◌, ◌≤◌, Bool,
 use Rattle.std.specs.Prelude.{◌&&◌, nat_le, option_map, option_and_then, bytes_eq, codes, decimal}
 use Rattle.std.proofs.lemmas.Bool.{and_parts, leb-true, cond_both}
 use Rattle.std.proofs.lemmas.Slice.Eq.{bytes_eq-Decides}
-use Rattle.store_model.specs.declared.line.Line.{Line}
-use Rattle.store_model.specs.declared.line.Line.TheVariants.{Born, PlaceIs, UsedIs, MinorDone, LinkCut, Stepped, Queued}
-use Rattle.store_model.specs.declared.line.Fate.TheVariants.{Unlinked, Pending, Released}
-use Rattle.store_model.specs.declared.line.Fate.{Fate}
-use Rattle.store_model.specs.declared.line.Phase.{Phase}
-use Rattle.store_model.specs.declared.line.Phase.TheVariants.{Scanning, Marking, Sweeping, Finalizing}
-use Rattle.store_model.specs.Numbers.{number_of}
-use Rattle.store_model.specs.Text.{words_text, age_text, phase_text, IsProper, IsProperEnd}
+use Rattle.text_model.specs.declared.line.Line.{Line}
+use Rattle.text_model.specs.declared.line.Line.TheVariants.{Born, PlaceIs, UsedIs, MinorDone, LinkCut, Stepped, Queued}
+use Rattle.text_model.specs.declared.line.Fate.TheVariants.{Unlinked, Pending, Released}
+use Rattle.text_model.specs.declared.line.Fate.{Fate}
+use Rattle.text_model.specs.declared.line.Phase.{Phase}
+use Rattle.text_model.specs.declared.line.Phase.TheVariants.{Scanning, Marking, Sweeping, Finalizing}
+use Rattle.text_model.specs.Numbers.{number_of}
+use Rattle.text_model.specs.Text.{words_text, age_text, phase_text, IsProper, IsProperEnd}
 use Rattle.line_text.proofs.DecimalLaws.{decimal_from_number}
 use Rattle.line_text.specs.Spelling.{IsInRange, Spells}
 use Rattle.line_text.specs.Reading.{first_word, Forms, line_in, number_forms, birth_forms, structure_forms, structure_line, number_line, fixed_texts, line_among, fixed_line, age_of, born_line, place_line, phase_of, step_line, unlinked_line, numbers_line, two_numbers_line, two_words_line, one_word_line, line_by_words, line_of}

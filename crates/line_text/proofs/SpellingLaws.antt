@@ -4,14 +4,14 @@ use Rattle.std.specs.Prelude.{not, ◌&&◌, ◌==◌, nat_le, option_map, optio
 use Rattle.line_text.proofs.ReadingLaws.{line_of-spells}
 use Rattle.std.proofs.lemmas.Bool.{and_parts, and_from, not_from_false, le-leb, cond-true}
 use Rattle.std.proofs.lemmas.Bool.Decides.{nat_tests}
-use Rattle.store_model.specs.declared.line.Line.{Line}
-use Rattle.store_model.specs.declared.line.Line.TheVariants.{Born, Got, Loaded, SameAs, IdentIs, HashIs, PlaceIs, PinIs, Derefed, NextIs, CountIs, FromObjIs, ToObjIs, NextDeadIs, Dealloc, UsedIs, MinorDone, Cleared, Destroyed, LinkCut, Stepped, Visited, Kept, Freed, Queued, ThresholdIs}
-use Rattle.store_model.specs.declared.line.Fate.{Fate}
-use Rattle.store_model.specs.declared.line.Fate.TheVariants.{Unlinked, Pending, Released}
-use Rattle.store_model.specs.declared.line.Phase.{Phase}
-use Rattle.store_model.specs.declared.line.Phase.TheVariants.{Scanning, Marking, Sweeping, Finalizing}
-use Rattle.store_model.specs.Numbers.{is_digit, all_digits, number_of}
-use Rattle.store_model.specs.Text.{words_text, phase_text, end_text, IsProper}
+use Rattle.text_model.specs.declared.line.Line.{Line}
+use Rattle.text_model.specs.declared.line.Line.TheVariants.{Born, Got, Loaded, SameAs, IdentIs, HashIs, PlaceIs, PinIs, Derefed, NextIs, CountIs, FromObjIs, ToObjIs, NextDeadIs, Dealloc, UsedIs, MinorDone, Cleared, Destroyed, LinkCut, Stepped, Visited, Kept, Freed, Queued, ThresholdIs}
+use Rattle.text_model.specs.declared.line.Fate.{Fate}
+use Rattle.text_model.specs.declared.line.Fate.TheVariants.{Unlinked, Pending, Released}
+use Rattle.text_model.specs.declared.line.Phase.{Phase}
+use Rattle.text_model.specs.declared.line.Phase.TheVariants.{Scanning, Marking, Sweeping, Finalizing}
+use Rattle.text_model.specs.Numbers.{is_digit, all_digits, number_of}
+use Rattle.text_model.specs.Text.{words_text, phase_text, end_text, IsProper}
 use Rattle.line_text.proofs.DecimalLaws.{IsNumeral-decimal, number_of-decimal}
 use Rattle.line_text.specs.Spelling.{IsInRange, IsLine, Spells}
 use Rattle.line_text.specs.Reading.{first_word, age_of, structure_line, number_line, fixed_line, born_line, place_line, phase_of, step_line, unlinked_line, numbers_line, two_numbers_line, two_words_line, one_word_line, line_by_words, line_of}

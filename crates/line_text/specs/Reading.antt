@@ -1,12 +1,12 @@
 -- The line that a text spells, read by its first words.
 use Rattle.std.specs.Prelude.{ℕ, Bool, true, false, ◌&&◌, ◌==◌, nat_le, if◌then◌else◌, List, [], ◌∷◌, Option, Some, None, option_map, option_and_then, bytes_eq, codes}
-use Rattle.store_model.specs.declared.line.Line.{Line}
-use Rattle.store_model.specs.declared.line.Line.TheVariants.{Born, Got, Loaded, SameAs, IdentIs, HashIs, PlaceIs, PinIs, Derefed, NextIs, CountIs, FromObjIs, ToObjIs, NextDeadIs, Dealloc, UsedIs, MinorDone, Cleared, Destroyed, LinkCut, Stepped, Visited, Kept, Freed, Queued, ThresholdIs}
-use Rattle.store_model.specs.declared.line.Fate.{Fate}
-use Rattle.store_model.specs.declared.line.Fate.TheVariants.{Unlinked, Pending, Released}
-use Rattle.store_model.specs.declared.line.Phase.{Phase}
-use Rattle.store_model.specs.declared.line.Phase.TheVariants.{Scanning, Marking, Sweeping, Finalizing}
-use Rattle.store_model.specs.Numbers.{number_of}
+use Rattle.text_model.specs.declared.line.Line.{Line}
+use Rattle.text_model.specs.declared.line.Line.TheVariants.{Born, Got, Loaded, SameAs, IdentIs, HashIs, PlaceIs, PinIs, Derefed, NextIs, CountIs, FromObjIs, ToObjIs, NextDeadIs, Dealloc, UsedIs, MinorDone, Cleared, Destroyed, LinkCut, Stepped, Visited, Kept, Freed, Queued, ThresholdIs}
+use Rattle.text_model.specs.declared.line.Fate.{Fate}
+use Rattle.text_model.specs.declared.line.Fate.TheVariants.{Unlinked, Pending, Released}
+use Rattle.text_model.specs.declared.line.Phase.{Phase}
+use Rattle.text_model.specs.declared.line.Phase.TheVariants.{Scanning, Marking, Sweeping, Finalizing}
+use Rattle.text_model.specs.Numbers.{number_of}
 
 infixl 10 ◌>>=◌
 abbrev pub ◌>>=◌ : {A B : Type 0} → Option A → (A → Option B) → Option B

@@ -1,8 +1,8 @@
 -- Which text spells which line.
 use Rattle.std.specs.Prelude.{◌≡◌, ℕ, ◌^◌, ◌<◌, List, Option, Some, None}
-use Rattle.store_model.specs.declared.line.Line.{Line}
-use Rattle.store_model.specs.declared.line.Line.TheVariants.{Born, Got, Loaded, SameAs, IdentIs, HashIs, PlaceIs, PinIs, Derefed, NextIs, CountIs, FromObjIs, ToObjIs, NextDeadIs, Dealloc, UsedIs, MinorDone, Cleared, Destroyed, LinkCut, Stepped, Visited, Kept, Freed, Queued, ThresholdIs}
-use Rattle.store_model.specs.Text.{words_text, IsProper}
+use Rattle.text_model.specs.declared.line.Line.{Line}
+use Rattle.text_model.specs.declared.line.Line.TheVariants.{Born, Got, Loaded, SameAs, IdentIs, HashIs, PlaceIs, PinIs, Derefed, NextIs, CountIs, FromObjIs, ToObjIs, NextDeadIs, Dealloc, UsedIs, MinorDone, Cleared, Destroyed, LinkCut, Stepped, Visited, Kept, Freed, Queued, ThresholdIs}
+use Rattle.text_model.specs.Text.{words_text, IsProper}
 
 -- the number, if there is one, has at most 64 bits
 abbrev pub IsSmall : Option ℕ → Type 0

@@ -1,12 +1,12 @@
 //! The line that a text spells.
 
 ghost use Rattle.std.specs.Prelude.{◌≡◌, IfSome, IfNone};
-ghost use Rattle.store_model.specs.declared.line.Line.{Line};
+ghost use Rattle.text_model.specs.declared.line.Line.{Line};
 ghost use Rattle.line_text.specs.Spelling.{Spells};
 ghost use Rattle.line_text.specs.Reading.{line_of, number_line, structure_line, fixed_line, age_of, born_line, place_line, phase_of, step_line, unlinked_line, numbers_line, two_numbers_line, two_words_line, line_in, birth_forms, cut as cut_line};
 
 use crate::words::{parse_number, split_word};
-use store_model::{Fate, Line, LinkEnd, Phase};
+use text_model::{Fate, Line, LinkEnd, Phase};
 
 // The greatest number of a structure.
 const MAX_STRUCTURE: u64 = 65_535;
@@ -15,7 +15,7 @@ const MAX_STRUCTURE: u64 = 65_535;
 const MAX_OWN: u64 = 4_294_967_295;
 
 /// The line that the text, which has no LF at its end, spells: exactly where there is one, and then it is the only one.
-/// It takes no memory.
+/// It does not allocate.
 pub fn parse_output_line(line: &[u8]) -> Option<Line>
     ensures spelled { IfSome result (λ l. Spells line.now l) }
     ensures only { IfSome result (λ l. (other : Line) → Spells line.now other → other ≡ l) }

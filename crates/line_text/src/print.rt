@@ -2,16 +2,16 @@
 
 ghost use Rattle.std.specs.Prelude.{◌≡◌, ◌++◌, OnOk, OnErr, codes, decimal};
 ghost use Rattle.std.specs.List.{All};
-ghost use Rattle.store_model.specs.Text.{IsProper, words_text, line_text, lines_text, number_or, age_text, place_text, phase_text, end_text};
-ghost use Rattle.store_model.specs.declared.line.Line.{Line};
+ghost use Rattle.text_model.specs.Text.{IsProper, words_text, line_text, lines_text, number_or, age_text, place_text, phase_text, end_text};
+ghost use Rattle.text_model.specs.declared.line.Line.{Line};
 ghost use Rattle.line_text.specs.Printing.{StartsWith};
 ghost use Rattle.line_text.specs.Spelling.{IsSmall, IsInRange, IsLine};
 
 use itoa::Buffer;
 use std::alloc::AllocError;
-use store_model::{Fate, Line, LinkEnd, Phase};
+use text_model::{Fate, Line, LinkEnd, Phase};
 
-/// Appends the text of a line, with its LF. After want of memory the old text stands, with part of the line behind it.
+/// Appends the text of a line, with its LF. Where memory runs out, the old text stands, with part of the line behind it.
 pub fn print_line(l: &Line, out: &mut Vec<u8>) -> Result<(), AllocError>
     requires { IsProper l.now }
     ensures ok { OnOk result (out.new.items ≡ out.old.items ++ line_text l.now) }
@@ -23,7 +23,7 @@ pub fn print_line(l: &Line, out: &mut Vec<u8>) -> Result<(), AllocError>
     append(b"\n", out)
 }
 
-/// Appends the texts of lines, one after another. After want of memory the old text stands, with part of theirs behind it.
+/// Appends the texts of lines, one after another. Where memory runs out, the old text stands, with part of theirs behind it.
 pub fn print_lines(lines: &[Line], out: &mut Vec<u8>) -> Result<(), AllocError>
     requires { All IsProper lines.now }
     ensures ok { OnOk result (out.new.items ≡ out.old.items ++ lines_text lines.now) }
@@ -36,7 +36,7 @@ pub fn print_lines(lines: &[Line], out: &mut Vec<u8>) -> Result<(), AllocError>
 }
 
 // Appends the text of a line, without its LF.
-#[tactic(auto, unfolding(store_model::specs::Text::words_text, crate::specs::Spelling::IsInRange))]
+#[tactic(auto, unfolding(text_model::specs::Text::words_text, crate::specs::Spelling::IsInRange))]
 fn print_words(l: &Line, out: &mut Vec<u8>) -> Result<(), AllocError>
     ensures ok { OnOk result (out.new.items ≡ out.old.items ++ words_text l.now) }
     ensures err { OnErr result (StartsWith out.new.items out.old.items) }

@@ -2,8 +2,8 @@
 
 ghost use Rattle.std.specs.Prelude.{◌≡◌, List};
 ghost use Rattle.std.specs.List.{All};
-ghost use Rattle.store_model.specs.declared.line.Line.{Line};
-ghost use Rattle.store_model.specs.Text.{lines_text};
+ghost use Rattle.text_model.specs.declared.line.Line.{Line};
+ghost use Rattle.text_model.specs.Text.{lines_text};
 ghost use Rattle.line_text.specs.Spelling.{IsLine};
 
 /// No two lists of lines have the same text. The law is the contract, and there is nothing to do.

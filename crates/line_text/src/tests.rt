@@ -1,6 +1,6 @@
 use crate::{parse_output_line, print_line};
 use std::test::Fail;
-use store_model::{Fate, Line, LinkEnd, Phase};
+use text_model::{Fate, Line, LinkEnd, Phase};
 
 // The line of each keyword with its text, and the other answers of those that have some.
 const SPELLINGS: [(&[u8], Line); 39] = [

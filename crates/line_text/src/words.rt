@@ -1,7 +1,7 @@
 //! The words of a line, between which single spaces stand, and the numbers that they write.
 
 ghost use Rattle.std.specs.Prelude.{◌≡◌, ◌≢◌, ◌<◌, ◌==◌, length, slice_index, option_map, position};
-ghost use Rattle.store_model.specs.Numbers.{number_of, digits_number};
+ghost use Rattle.text_model.specs.Numbers.{number_of, digits_number};
 ghost use Rattle.line_text.specs.Reading.{first_word};
 
 use std::str;

@@ -58,7 +58,7 @@ impl Model for Nursery {
 
 impl Nursery {
     /// A nursery of which no word is used. It makes room for the greatest number of used ranges,
-    /// so that no other call takes memory.
+    /// so that no other call allocates.
     pub fn new(alloc: Global, words: u64, pins: u64) -> Result<Nursery, AllocError>
         requires least { 16 ≤ words }
         requires most { words ≤ 1048576 }

@@ -4,12 +4,12 @@ use Rattle.std.specs.Prelude.{IsSome}
 use Rattle.std.proofs.lemmas.List.{map-append}
 use Rattle.type_table.specs.declared.info.TypeInfo.{TypeInfo}
 use Rattle.type_table.specs.Table.{Table, value_at}
-use Rattle.store_model.specs.Layout.{Layout}
-use Rattle.store_model.specs.Object.{Object}
-use Rattle.store_model.specs.Sets.{is_in}
-use Rattle.store_model.specs.ObjectWords.{words_from, renamed, type_id_at, info_at, layout_at, target_of, object_from, Covers}
-use Rattle.store_model.specs.Holds.{HoldsObjects, IsPointer}
-use Rattle.object_view.proofs.WordLaws.{map-same, is_in-append}
+use Rattle.object_model.specs.Layout.{Layout}
+use Rattle.object_model.specs.Object.{Object}
+use Rattle.object_model.specs.Sets.{is_in}
+use Rattle.object_model.specs.ObjectWords.{words_from, renamed, type_id_at, info_at, layout_at, target_of, object_from, Covers}
+use Rattle.object_model.specs.Holds.{HoldsObjects, IsPointer}
+use Rattle.object_model.proofs.Members.{map-same, is_in-append}
 use Rattle.object_view.proofs.LayoutLaws.{laid_out, weak-at, SameAt, keeps-same, target_of-same, object_from-same, object_from-of}
 use Rattle.object_view.proofs.ChangeLaws.{covers-kept}
 

@@ -5,13 +5,14 @@ use Rattle.std.proofs.lemmas.Bool.Decides.{eqb_tells}
 use Rattle.std.proofs.lemmas.Simd.{map-map}
 use Rattle.type_table.specs.declared.info.TypeInfo.{TypeInfo}
 use Rattle.type_table.specs.Table.{Table}
-use Rattle.store_model.specs.Layout.{Layout}
-use Rattle.store_model.specs.Object.{Object}
-use Rattle.store_model.specs.Slots.{changed_at}
-use Rattle.store_model.specs.Sets.{is_in}
-use Rattle.store_model.specs.ObjectWords.{updated, type_id_at, layout_at, words_at, object_from, Covers}
-use Rattle.store_model.specs.Holds.{HoldsObjects, IsPointer}
-use Rattle.object_view.proofs.WordLaws.{updated-here, updated-other, map-same}
+use Rattle.object_model.specs.Layout.{Layout}
+use Rattle.object_model.specs.Object.{Object}
+use Rattle.object_model.specs.Fields.{changed_at}
+use Rattle.object_model.specs.Sets.{is_in}
+use Rattle.object_model.specs.ObjectWords.{updated, type_id_at, layout_at, words_at, object_from, Covers}
+use Rattle.object_model.specs.Holds.{HoldsObjects, IsPointer}
+use Rattle.object_view.proofs.WordLaws.{updated-here, updated-other}
+use Rattle.object_model.proofs.Members.{map-same}
 use Rattle.object_view.proofs.LayoutLaws.{laid_out, SameAt, KeepsLayout, keeps-same, layout_at-same, object_from-same, birth-from}
 
 -- The words v are the words w but within the object at p, whose type, birth and layout stay.

@@ -5,12 +5,12 @@ use Rattle.type_table.specs.declared.info.Shape.{Shape}
 use Rattle.type_table.specs.declared.info.Shape.TheVariants.{Fixed, IntArray, RefArray, Weak}
 use Rattle.type_table.specs.declared.info.TypeInfo.{TypeInfo}
 use Rattle.type_table.specs.Table.{Table}
-use Rattle.store_model.specs.Layout.{Layout}
-use Rattle.store_model.specs.Object.{Object}
-use Rattle.store_model.specs.Slots.{changed_at, with_int, with_ref}
-use Rattle.store_model.specs.Sets.{is_in}
-use Rattle.store_model.specs.ObjectWords.{words_from, updated, renamed, type_id_at, info_at, layout_at, target_of, object_of, object_from}
-use Rattle.store_model.specs.Holds.{HoldsObjects, IsPointer}
+use Rattle.object_model.specs.Layout.{Layout}
+use Rattle.object_model.specs.Object.{Object}
+use Rattle.object_model.specs.Fields.{changed_at, with_int, with_ref}
+use Rattle.object_model.specs.Sets.{is_in}
+use Rattle.object_model.specs.ObjectWords.{words_from, updated, renamed, type_id_at, info_at, layout_at, target_of, object_of, object_from}
+use Rattle.object_model.specs.Holds.{HoldsObjects, IsPointer}
 use Rattle.object_view.proofs.WordLaws.{updated-here, updated-other, words_from-same, words_from-set}
 use Rattle.object_view.proofs.LayoutLaws.{laid_out, weak-at, target_of-same, object_from-is, object_from-of}
 use Rattle.object_view.proofs.ChangeLaws.{changed_holds, changes-updated, keeps-updated}

@@ -6,12 +6,12 @@ use Rattle.type_table.specs.declared.info.Shape.{Shape}
 use Rattle.type_table.specs.declared.info.Shape.TheVariants.{Fixed, IntArray, RefArray, Weak}
 use Rattle.type_table.specs.declared.info.TypeInfo.{TypeInfo}
 use Rattle.type_table.specs.Table.{Table}
-use Rattle.store_model.specs.Layout.{Layout, layout_of}
-use Rattle.store_model.specs.Object.{Object}
-use Rattle.store_model.specs.Slots.{changed_at, with_ref}
-use Rattle.store_model.specs.Sets.{is_in}
-use Rattle.store_model.specs.ObjectWords.{words_from, updated, renamed, info_at, layout_at, words_at, object_from, Covers}
-use Rattle.store_model.specs.Holds.{HoldsObjects, IsPointer}
+use Rattle.object_model.specs.Layout.{Layout, layout_of}
+use Rattle.object_model.specs.Object.{Object}
+use Rattle.object_model.specs.Fields.{changed_at, with_ref}
+use Rattle.object_model.specs.Sets.{is_in}
+use Rattle.object_model.specs.ObjectWords.{words_from, updated, renamed, info_at, layout_at, words_at, object_from, Covers}
+use Rattle.object_model.specs.Holds.{HoldsObjects, IsPointer}
 use Rattle.object_view.specs.Moving.{place_now, HasLeft, IsMoving}
 use Rattle.object_view.proofs.WordLaws.{get_or-words_from}
 use Rattle.object_view.proofs.LayoutLaws.{laid_out, KeepsLayout}

@@ -8,14 +8,14 @@ use Rattle.type_table.specs.declared.info.Shape.TheVariants.{Fixed, IntArray, Re
 use Rattle.type_table.specs.declared.info.TypeInfo.{TypeInfo}
 use Rattle.type_table.specs.Table.{Table}
 use Rattle.type_table.specs.Words.{words_in}
-use Rattle.store_model.specs.Layout.{layout_of}
-use Rattle.store_model.specs.Object.{Object, words_of}
-use Rattle.store_model.specs.Store.{object_at, kept_words}
-use Rattle.store_model.specs.Slots.{ref_in}
-use Rattle.store_model.specs.Sets.{is_in}
-use Rattle.store_model.specs.ObjectWords.{words_from, renamed, type_id_at, info_at, layout_at, words_at, target_of, object_from}
-use Rattle.store_model.specs.Holds.{HoldsObjects, IsPointer}
-use Rattle.object_view.proofs.WordLaws.{is_in-head, is_in-tail, is_in-cases, is_in-nil, length-words_from, get_or-words_from}
+use Rattle.object_model.specs.Layout.{layout_of}
+use Rattle.object_model.specs.Object.{Object, words_of, object_at, kept_words}
+use Rattle.object_model.specs.Fields.{ref_in}
+use Rattle.object_model.specs.Sets.{is_in}
+use Rattle.object_model.specs.ObjectWords.{words_from, renamed, type_id_at, info_at, layout_at, words_at, target_of, object_from}
+use Rattle.object_model.specs.Holds.{HoldsObjects, IsPointer}
+use Rattle.object_view.proofs.WordLaws.{length-words_from, get_or-words_from}
+use Rattle.object_model.proofs.Members.{is_in-head, is_in-tail, is_in-cases, is_in-nil}
 use Rattle.object_view.proofs.LayoutLaws.{laid_out, birth-from}
 
 -- the first object of a birth, where each place has a birth of its own

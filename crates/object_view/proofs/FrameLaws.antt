@@ -4,15 +4,16 @@ use Rattle.std.proofs.lemmas.Bool.Decides.{eqb_tells}
 use Rattle.std.proofs.lemmas.Simd.{map-map}
 use Rattle.type_table.specs.declared.info.TypeInfo.{TypeInfo}
 use Rattle.type_table.specs.Table.{Table}
-use Rattle.store_model.specs.Layout.{Layout}
-use Rattle.store_model.specs.Object.{Object}
-use Rattle.store_model.specs.Sets.{is_in}
-use Rattle.store_model.specs.ObjectWords.{updated, type_id_at, layout_at, object_from, Covers}
-use Rattle.store_model.specs.Holds.{HoldsObjects, IsPointer}
+use Rattle.object_model.specs.Layout.{Layout}
+use Rattle.object_model.specs.Object.{Object}
+use Rattle.object_model.specs.Sets.{is_in}
+use Rattle.object_model.specs.ObjectWords.{updated, type_id_at, layout_at, object_from, Covers}
+use Rattle.object_model.specs.Holds.{HoldsObjects, IsPointer}
 use Rattle.object_header.specs.declared.flags.Flag.{Flag}
 use Rattle.object_header.specs.Words.{with_flag, without_flag}
 use Rattle.object_header.proofs.WordLaws.{type_of-with_flag, type_of-without_flag, IsHeader-with_flag, IsHeader-without_flag}
-use Rattle.object_view.proofs.WordLaws.{updated-here, updated-other, map-same, words_from-same}
+use Rattle.object_view.proofs.WordLaws.{updated-here, updated-other, words_from-same}
+use Rattle.object_model.proofs.Members.{map-same}
 use Rattle.object_view.proofs.LayoutLaws.{laid_out, SameAt, KeepsLayout, keeps-same, layout_at-same, object_from-same, object_from-is, object_from-of}
 use Rattle.object_view.proofs.ChangeLaws.{covers-kept}
 
@@ -98,7 +99,7 @@ keeps-header types w p x e small =
       layout_stays = layout_at-same types (updated w p x) w p type_stays (λ a b. updated-other w p x (p + 2) (λ z. absurd (omega (arith, z))));
     }
 
-header-same : (types : Table TypeInfo) (name w : ℕ → ℕ) (p x : ℕ) → x % 65536 ≡ w p % 65536 → x < 67108864
+pub header-same : (types : Table TypeInfo) (name w : ℕ → ℕ) (p x : ℕ) → x % 65536 ≡ w p % 65536 → x < 67108864
     → object_from types name (updated w p x) p ≡ object_from types name w p
 header-same types name w p x e small =
     let k : Layout = layout_at types w p in let laid = laid_out types w p in

@@ -1,5 +1,5 @@
 -- The words of a new object are written one after another.
-use Rattle.std.proofs.Common.{◌≡◌, ℕ, ◌+◌, ◌^◌, ◌<◌, ◌≤◌, ◌⊎◌, true, List, [], ◌∷◌, replicate, sym, ap, ap₂, ◌∙◌, inl, inr, arith}
+use Rattle.std.proofs.Common.{◌≡◌, ℕ, ◌+◌, ◌^◌, ◌<◌, ◌≤◌, ◌⊎◌, true, List, [], ◌∷◌, replicate, sym, ap, ◌∙◌, inl, inr, arith}
 use Rattle.std.proofs.lemmas.Bool.Decides.{nat_tests}
 use Rattle.type_table.specs.declared.info.Shape.{Shape}
 use Rattle.type_table.specs.declared.info.Shape.TheVariants.{Fixed, IntArray, RefArray, Weak}
@@ -57,11 +57,11 @@ pub lies-writes : (old new : Memory) (b x a n : ℕ) → Writes old new b x → 
 lies-writes old new b x a n e lies = ap (λ m. lies_in_one m.blocks a n) e ∙ lies-with_word old.blocks b x a n ∙ lies
 
 -- header and birth are written, and then the rest
-pub writes-two : (m0 m1 m2 m3 : Memory) (a t u b : ℕ) (xs ys : List ℕ) → Writes m0 m1 a t → Writes m1 m2 (a + 1) b → WritesRun m2 m3 (a + 2) xs
-    → t ≡ u → xs ≡ ys → WritesRun m0 m3 a (u ∷ (b ∷ ys))
-writes-two m0 m1 m2 m3 a t u b xs ys e f g same rest =
+pub writes-two : (m0 m1 m2 m3 : Memory) (a t b : ℕ) (xs ys : List ℕ) → Writes m0 m1 a t → Writes m1 m2 (a + 1) b → WritesRun m2 m3 (a + 2) xs
+    → xs ≡ ys → WritesRun m0 m3 a (t ∷ (b ∷ ys))
+writes-two m0 m1 m2 m3 a t b xs ys e f g rest =
     g ∙ ap (λ m. with_blocks m (with_run m.blocks (a + 2) xs)) (f ∙ ap (λ m. with_blocks m (with_word m.blocks (a + 1) b)) e)
-    ∙ ap (with_blocks m0) (run-two m0.blocks a t b xs) ∙ ap₂ (λ x zs. with_blocks m0 (with_run m0.blocks a (x ∷ (b ∷ zs)))) same rest
+    ∙ ap (with_blocks m0) (run-two m0.blocks a t b xs) ∙ ap (λ zs. with_blocks m0 (with_run m0.blocks a (t ∷ (b ∷ zs)))) rest
 
 -- one word is a run of one
 pub writes-word : (m new : Memory) (a x : ℕ) → Writes m new a x → WritesRun m new a (x ∷ [])
@@ -101,9 +101,9 @@ array-size : (s : Shape) (len : ℕ) → (s ≡ IntArray) ⊎ (s ≡ RefArray) �
 array-size s len (inl e) = ap (λ k. words_in k len) e
 array-size s len (inr e) = ap (λ k. words_in k len) e
 
-pub array-rest : (s : Shape) (len : ℕ) → (s ≡ IntArray) ⊎ (s ≡ RefArray) → born_rest s len ≡ len ∷ replicate len 0
-array-rest s len (inl e) = ap (λ k. born_rest k len) e
-array-rest s len (inr e) = ap (λ k. born_rest k len) e
+pub array-rest : (s : Shape) (len x : ℕ) → (s ≡ IntArray) ⊎ (s ≡ RefArray) → born_rest s len x ≡ len ∷ replicate len 0
+array-rest s len x (inl e) = ap (λ k. born_rest k len x) e
+array-rest s len x (inr e) = ap (λ k. born_rest k len x) e
 
 pub record HasArrayRoom (m : Memory) (a len : ℕ) : Type 0 where
   pub third : has m.blocks (a + 2) ≡ true

@@ -4,8 +4,8 @@ use Rattle.type_table.specs.declared.info.Shape.{Shape}
 use Rattle.type_table.specs.declared.info.Shape.TheVariants.{Fixed, IntArray, RefArray, Weak}
 use Rattle.type_table.specs.declared.info.TypeInfo.{TypeInfo}
 use Rattle.type_table.specs.Table.{Table, value_at}
-use Rattle.store_model.specs.Layout.{Layout, layout_of}
-use Rattle.store_model.specs.ObjectWords.{words_from, renamed, type_id_at, info_or_weak, info_at, layout_at, words_at, target_of, object_of, object_from}
+use Rattle.object_model.specs.Layout.{Layout, layout_of}
+use Rattle.object_model.specs.ObjectWords.{words_from, renamed, type_id_at, info_or_weak, info_at, layout_at, words_at, target_of, object_of, object_from}
 use Rattle.object_view.proofs.WordLaws.{words_from-same}
 
 -- the parts of an object lie in this order within its words

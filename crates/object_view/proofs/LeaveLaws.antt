@@ -8,12 +8,13 @@ use Rattle.type_table.specs.Table.{Table}
 use Rattle.heap_space.specs.Runs.{within}
 use Rattle.heap_space.specs.Places.{Placed, has, word_at, with_word, with_run, run_at, lies_in_one}
 use Rattle.heap_space.proofs.Blocks.{word_at-copied, word_at-none, has-with_run, has-with_word}
-use Rattle.store_model.specs.Object.{Object}
-use Rattle.store_model.specs.Sets.{is_in}
-use Rattle.store_model.specs.ObjectWords.{updated, renamed, words_at, Covers}
-use Rattle.store_model.specs.Holds.{HoldsObjects, IsPointer}
+use Rattle.object_model.specs.Object.{Object}
+use Rattle.object_model.specs.Sets.{is_in}
+use Rattle.object_model.specs.ObjectWords.{updated, renamed, words_at, Covers}
+use Rattle.object_model.specs.Holds.{HoldsObjects, IsPointer}
 use Rattle.object_view.specs.Moving.{copied, moved, HasFreeRoom}
-use Rattle.object_view.proofs.WordLaws.{updated-here, updated-other, is_in-tail}
+use Rattle.object_view.proofs.WordLaws.{updated-here, updated-other}
+use Rattle.object_model.proofs.Members.{is_in-tail}
 use Rattle.object_view.proofs.LayoutLaws.{laid_out}
 use Rattle.object_view.proofs.SpaceLaws.{word_at-written, lies-at}
 use Rattle.object_view.proofs.MoveLaws.{Moves, move_holds, moved_to}

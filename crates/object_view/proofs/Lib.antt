@@ -17,3 +17,4 @@ pub mod MovingLaws
 pub mod WholeLaws
 pub mod MemoryLaws
 pub mod SurvivorLaws
+pub mod CopyingLaws

@@ -1,15 +1,15 @@
 -- What the calls of this crate do to the objects that a memory holds: for callers, who open no layout.
-use Rattle.std.proofs.Common.{◌≡◌, ◌≢◌, ℕ, ◌+◌, ◌<◌, ◌≤◌, true, IsTrue, List, [], ◌∷◌, ◌++◌, map, Some, sym, ap, ◌∙◌, subst, arith}
+use Rattle.std.proofs.Common.{◌≡◌, ◌≢◌, ℕ, ◌+◌, ◌<◌, ◌≤◌, true, IsTrue, List, [], ◌∷◌, ◌++◌, map, Some, sym, subst, arith}
 use Rattle.type_table.specs.declared.info.Shape.TheVariants.{Weak}
 use Rattle.type_table.specs.declared.info.TypeInfo.{TypeInfo}
 use Rattle.type_table.specs.Table.{Table, value_at}
 use Rattle.type_table.specs.Words.{words_in}
-use Rattle.store_model.specs.Object.{Object}
-use Rattle.store_model.specs.Slots.{changed_at, with_int, with_ref}
-use Rattle.store_model.specs.Birth.{newborn}
-use Rattle.store_model.specs.Sets.{is_in}
-use Rattle.store_model.specs.ObjectWords.{updated, renamed, info_at, layout_at, words_at, Covers}
-use Rattle.store_model.specs.Holds.{HoldsObjects, IsPointer}
+use Rattle.object_model.specs.Object.{Object}
+use Rattle.object_model.specs.Fields.{changed_at, with_int, with_ref}
+use Rattle.object_model.specs.Newborn.{newborn}
+use Rattle.object_model.specs.Sets.{is_in}
+use Rattle.object_model.specs.ObjectWords.{updated, renamed, info_at, layout_at, words_at, Covers}
+use Rattle.object_model.specs.Holds.{HoldsObjects, IsPointer}
 use Rattle.heap_space.specs.Places.{Placed, has, word_at, with_word, with_run, run_at, lies_in_one}
 use Rattle.object_header.specs.declared.flags.Flag.{Flag}
 use Rattle.object_header.specs.Words.{with_flag, without_flag}
@@ -19,10 +19,9 @@ use Rattle.object_view.proofs.LayoutLaws.{laid_out, weak-at}
 use Rattle.object_view.proofs.SpaceLaws.{word_at-written, lies-at}
 use Rattle.object_view.proofs.FieldLaws.{int_holds, ref_holds, target_holds, with_target}
 use Rattle.object_view.proofs.FrameLaws.{flag_holds, flag_clear_holds, outside_write_holds}
-use Rattle.object_view.proofs.NewbornLaws.{IsFree, BornAt, birth_holds, weak_birth_holds, born-is, born-info, request_of}
+use Rattle.object_view.proofs.NewbornLaws.{IsFree, IsHeaderOf, birth_holds, request_for}
 use Rattle.object_view.proofs.WholeLaws.{born-written}
 use Rattle.object_view.proofs.ForwardLaws.{pointer_follows}
-use Rattle.heap_space.proofs.Blocks.{has-with_run}
 use Rattle.object_view.proofs.LeaveLaws.{moved_holds, word_at-moved}
 use Rattle.object_view.proofs.MoveLaws.{moved_to}
 
@@ -90,34 +89,13 @@ pub outside_held : {types : Table TypeInfo} {name : ℕ → ℕ} {met places : L
 outside_held {types = types} {name = name} {met = met} {places = places} {kept = kept} ps at x h has none = written-held types name met places kept ps at x has (outside_write_holds at x h none)
 
 -- `init`: an object is born, and is held beside the others.
-pub birth_held : {types : Table TypeInfo} {name : ℕ → ℕ} {met places : List ℕ} {kept : List Object} (ps : List Placed) (a slot t birth len : ℕ) (info : TypeInfo)
-    → HoldsObjects types (word_at ps) met places name kept → value_at types t ≡ Some info → t < 65536 → lies_in_one ps a (words_in info.shape len) ≡ true
-    → IsFree types (word_at ps) met places a (words_in info.shape len) → ((q : ℕ) → IsTrue (is_in q places) → name q ≢ birth)
-    → HoldsObjects types (word_at (with_run ps a (born_words info.shape t birth len))) (met ++ a ∷ []) (places ++ a ∷ []) (updated name a birth)
-    (kept ++ newborn birth info (request_of slot t len) ∷ [])
-birth_held {types = types} {name = name} {met = met} {places = places} {kept = kept} ps a slot t birth len info h known small lies free fresh =
-    birth_holds slot h free (born-written ps types a t birth len info known small lies) fresh
-
--- `init` of a weak object, and `set_ref` with 0: it is born with its target.
-pub weak_birth_held : {types : Table TypeInfo} {name : ℕ → ℕ} {met places : List ℕ} {kept : List Object} (ps : List Placed) (a slot t birth len x : ℕ) (info : TypeInfo)
-    → HoldsObjects types (word_at ps) met places name kept → value_at types t ≡ Some info → t < 65536 → lies_in_one ps a (words_in info.shape len) ≡ true
-    → IsFree types (word_at ps) met places a (words_in info.shape len) → ((q : ℕ) → IsTrue (is_in q places) → name q ≢ birth)
-    → info.shape ≡ Weak → IsPointer (met ++ a ∷ []) x
-    → HoldsObjects types (word_at (with_word (with_run ps a (born_words info.shape t birth len)) (layout_at types (word_at (with_run ps a (born_words info.shape t birth len))) a).ref_start x))
-    (met ++ a ∷ []) (places ++ a ∷ []) (updated name a birth)
-    (kept ++ newborn birth info (record { slot = slot; type_id = t; items = len; target = renamed (updated name a birth) x }) ∷ [])
-weak_birth_held {types = types} {name = name} {met = met} {places = places} {kept = kept} ps a slot t birth len x info h known small lies free fresh weak is =
-    let run : List Placed = with_run ps a (born_words info.shape t birth len) in
-    let born : BornAt types (word_at run) (word_at ps) a t birth len info = born-written ps types a t birth len info known small lies in
-    let at : ℕ = (layout_at types (word_at run) a).ref_start in
-    let size : words_at types (word_at run) a ≡ words_in info.shape len = (born-is name slot born).words in
-    let laid = laid_out types (word_at run) a in
-    let count : (layout_at types (word_at run) a).pointer_count ≡ 1 = (weak-at types (word_at run) a (ap (λ k. k.shape) (born-info born) ∙ weak)).0 in
-    let whole : has run at ≡ true = has-with_run ps a (born_words info.shape t birth len) at
-    ∙ lies-at ps a (words_in info.shape len) at lies (omega (arith, laid.begins, laid.ordered)) (omega (arith, laid.pointers, count, size)) in
-    written-held types (updated name a birth) (met ++ a ∷ []) (places ++ a ∷ [])
-    (kept ++ newborn birth info (record { slot = slot; type_id = t; items = len; target = renamed (updated name a birth) x }) ∷ []) run at x whole
-    (weak_birth_holds slot x h free born fresh weak is)
+pub birth_held : {types : Table TypeInfo} {name : ℕ → ℕ} {met places : List ℕ} {kept : List Object} (ps : List Placed) (a slot t head birth len x : ℕ) (info : TypeInfo)
+    → HoldsObjects types (word_at ps) met places name kept → value_at types t ≡ Some info → IsHeaderOf t head → lies_in_one ps a (words_in info.shape len) ≡ true
+    → IsFree types (word_at ps) met places a (words_in info.shape len) → ((q : ℕ) → IsTrue (is_in q places) → name q ≢ birth) → IsPointer (met ++ a ∷ []) x
+    → HoldsObjects types (word_at (with_run ps a (born_words info.shape head birth len x))) (met ++ a ∷ []) (places ++ a ∷ []) (updated name a birth)
+    (kept ++ newborn birth info (request_for (updated name a birth) slot t len info.shape x) ∷ [])
+birth_held {types = types} ps a slot t head birth len x info h known header lies free fresh is =
+    birth_holds slot h free (born-written ps types a t head birth len x info known header lies) fresh is
 
 -- a pointer of an object follows to where its object is now
 pub follow_held : {types : Table TypeInfo} {name : ℕ → ℕ} {met places : List ℕ} {kept : List Object} (ps : List Placed) (p i : ℕ)

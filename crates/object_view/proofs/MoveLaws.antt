@@ -6,11 +6,11 @@ use Rattle.std.proofs.lemmas.Bool.Decides.{eqb_tells}
 use Rattle.std.proofs.lemmas.Simd.{map-map}
 use Rattle.type_table.specs.declared.info.TypeInfo.{TypeInfo}
 use Rattle.type_table.specs.Table.{Table, value_at}
-use Rattle.store_model.specs.Object.{Object}
-use Rattle.store_model.specs.Sets.{is_in}
-use Rattle.store_model.specs.ObjectWords.{renamed, layout_at, words_at, object_from, Covers}
-use Rattle.store_model.specs.Holds.{HoldsObjects, IsPointer}
-use Rattle.object_view.proofs.WordLaws.{map-same, is_in-head, is_in-tail, is_in-cases, is_in-nil}
+use Rattle.object_model.specs.Object.{Object}
+use Rattle.object_model.specs.Sets.{is_in}
+use Rattle.object_model.specs.ObjectWords.{renamed, layout_at, words_at, object_from, Covers}
+use Rattle.object_model.specs.Holds.{HoldsObjects, IsPointer}
+use Rattle.object_model.proofs.Members.{map-same, is_in-head, is_in-tail, is_in-cases, is_in-nil}
 use Rattle.object_view.proofs.LayoutLaws.{laid_out, SameAt, keeps-same, object_from-same}
 use Rattle.object_view.proofs.ChangeLaws.{covers-kept}
 use Rattle.object_view.proofs.BirthLaws.{object_from-names, StandsAdded, stands-same}

@@ -3,12 +3,13 @@ use Rattle.std.proofs.Common.{◌≡◌, ◌≢◌, ℕ, ◌+◌, ◌<◌, ◌�
 use Rattle.std.proofs.lemmas.Bool.Decides.{eqb_tells}
 use Rattle.type_table.specs.declared.info.TypeInfo.{TypeInfo}
 use Rattle.type_table.specs.Table.{Table}
-use Rattle.store_model.specs.Object.{Object}
-use Rattle.store_model.specs.Sets.{is_in}
-use Rattle.store_model.specs.ObjectWords.{updated, words_at, Covers}
-use Rattle.store_model.specs.Holds.{HoldsObjects}
+use Rattle.object_model.specs.Object.{Object}
+use Rattle.object_model.specs.Sets.{is_in}
+use Rattle.object_model.specs.ObjectWords.{updated, words_at, Covers}
+use Rattle.object_model.specs.Holds.{HoldsObjects}
 use Rattle.object_view.specs.Moving.{moved, HasLeft, IsMoving, HasFreeRoom}
-use Rattle.object_view.proofs.WordLaws.{updated-here, updated-other, is_in-head, is_in-tail, is_in-cases}
+use Rattle.object_view.proofs.WordLaws.{updated-here, updated-other}
+use Rattle.object_model.proofs.Members.{is_in-head, is_in-tail, is_in-cases}
 use Rattle.object_view.proofs.LayoutLaws.{laid_out, SameAt, keeps-same}
 use Rattle.object_view.proofs.ChangeLaws.{covers-kept}
 use Rattle.object_view.proofs.CopyLaws.{copy-like}

@@ -1,7 +1,7 @@
 -- A memory as a function of places: what a write leaves, and that the words of a block have places that fit.
 use Rattle.std.proofs.Common.{◌≡◌, ℕ, ◌+◌, ◌-◌, ◌^◌, ◌<◌, ◌≤◌, true, List, subst, arith}
 use Rattle.std.proofs.Math.Path.{fun_ext}
-use Rattle.store_model.specs.ObjectWords.{updated}
+use Rattle.object_model.specs.ObjectWords.{updated}
 use Rattle.heap_space.specs.Places.{Placed, has, word_at, with_word, lies_in_one, RiseTo}
 use Rattle.heap_space.specs.Memory.{Memory}
 use Rattle.heap_space.specs.Order.{IsInOrder}

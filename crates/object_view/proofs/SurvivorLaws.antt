@@ -3,11 +3,11 @@ use Rattle.std.proofs.Common.{◌≡◌, ℕ, ◌+◌, ◌<◌, ◌⊎◌, Bool,
 use Rattle.std.proofs.lemmas.Bool.{cases_Bool}
 use Rattle.type_table.specs.declared.info.TypeInfo.{TypeInfo}
 use Rattle.type_table.specs.Table.{Table}
-use Rattle.store_model.specs.Object.{Object}
-use Rattle.store_model.specs.Sets.{is_in}
-use Rattle.store_model.specs.ObjectWords.{layout_at, object_from}
-use Rattle.store_model.specs.Holds.{HoldsObjects, IsPointer}
-use Rattle.object_view.proofs.WordLaws.{is_in-head, is_in-tail, is_in-cases, is_in-nil}
+use Rattle.object_model.specs.Object.{Object}
+use Rattle.object_model.specs.Sets.{is_in}
+use Rattle.object_model.specs.ObjectWords.{layout_at, object_from}
+use Rattle.object_model.specs.Holds.{HoldsObjects, IsPointer}
+use Rattle.object_model.proofs.Members.{is_in-head, is_in-tail, filter-part, filter-member}
 use Rattle.object_view.proofs.LayoutLaws.{birth-from}
 
 -- the objects whose births pass are those whose places pass by name
@@ -23,36 +23,6 @@ filter-reads f name test (p ∷ ps) births =
     ]
 
 -- members of what passes a test
-
-head-member : (test : ℕ → Bool) (p q : ℕ) (ps : List ℕ) → q ≡ p → IsTrue (is_in q (p ∷ ps))
-head-member test p q ps e = let P : ℕ → Type 0 = λ k. IsTrue (is_in k (p ∷ ps)) in subst P (sym e) (is_in-head p ps)
-
-kept-part : (test : ℕ → Bool) (p q : ℕ) (ps : List ℕ) → (IsTrue (is_in q (filter test ps)) → IsTrue (is_in q ps) × (test q ≡ true))
-    → test p ≡ true → IsTrue (is_in q (p ∷ filter test ps)) → IsTrue (is_in q (p ∷ ps)) × (test q ≡ true)
-kept-part test p q ps more e t = elim (is_in-cases q p (filter test ps) t) [
-  | inl is ↦ (head-member test p q ps is, ap test is ∙ e)
-  | inr u ↦ (is_in-tail q p ps (more u).0, (more u).1)
-]
-
-pub filter-part : (test : ℕ → Bool) (ps : List ℕ) (q : ℕ) → IsTrue (is_in q (filter test ps)) → IsTrue (is_in q ps) × (test q ≡ true)
-filter-part test [] q t = absurd (is_in-nil q t)
-filter-part test (p ∷ ps) q t = elim (cases_Bool (test p)) [
-  | inl e ↦ kept-part test p q ps (filter-part test ps q) e (rw e at t)
-  | inr e ↦ let more = filter-part test ps q (rw e at t) in (is_in-tail q p ps more.0, more.1)
-]
-
-keep-in : (test : ℕ → Bool) (p : ℕ) (ps : List ℕ) (q : ℕ) → IsTrue (is_in q (filter test ps)) → IsTrue (is_in q (filter test (p ∷ ps)))
-keep-in test p ps q t = elim (cases_Bool (test p)) [
-  | inl e ↦ rw e (is_in-tail q p (filter test ps) t)
-  | inr e ↦ rw e t
-]
-
-pub filter-member : (test : ℕ → Bool) (ps : List ℕ) (q : ℕ) → IsTrue (is_in q ps) → test q ≡ true → IsTrue (is_in q (filter test ps))
-filter-member test [] q t e = absurd (is_in-nil q t)
-filter-member test (p ∷ ps) q t e = elim (is_in-cases q p ps t) [
-  | inl is ↦ rw (ap test (sym is) ∙ e) (head-member test p q (filter test ps) is)
-  | inr u ↦ keep-in test p ps q (filter-member test ps q u e)
-]
 
 -- some of the places, with what references have then
 pub part_holds : {types : Table TypeInfo} {w name : ℕ → ℕ} {met places : List ℕ} {kept : List Object} (less remain : List ℕ)

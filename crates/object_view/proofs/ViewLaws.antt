@@ -4,8 +4,8 @@ use Rattle.type_table.specs.declared.info.Shape.{Shape}
 use Rattle.type_table.specs.declared.info.Shape.TheVariants.{IntArray, RefArray}
 use Rattle.type_table.specs.declared.info.TypeInfo.{TypeInfo}
 use Rattle.type_table.specs.Table.{Table, value_at}
-use Rattle.store_model.specs.Layout.{Layout, layout_of}
-use Rattle.store_model.specs.ObjectWords.{type_id_at, info_or_weak, info_at, layout_at, words_at}
+use Rattle.object_model.specs.Layout.{Layout, layout_of}
+use Rattle.object_model.specs.ObjectWords.{type_id_at, info_or_weak, info_at, layout_at, words_at}
 use Rattle.heap_space.specs.Places.{has, word_at, lies_in_one}
 use Rattle.heap_space.specs.Memory.{Memory}
 use Rattle.heap_space.specs.Order.{IsInOrder}

@@ -1,9 +1,7 @@
 -- Words read one by one, one word changed, and members of lists of places.
-use Rattle.std.proofs.Common.{◌≡◌, ◌≢◌, ℕ, zero, suc, ◌+◌, ◌<◌, ◌≤◌, ◌⊎◌, Bool, true, false, IsTrue, ◌==◌, ◌||◌, List, [], ◌∷◌, ◌++◌, length, map, set, get_or, replicate, refl, sym, ap, ap₂, ◌∙◌, subst, inl, inr, arith}
+use Rattle.std.proofs.Common.{◌≡◌, ◌≢◌, ℕ, zero, suc, ◌+◌, ◌<◌, ◌≤◌, ◌∷◌, length, set, get_or, replicate, refl, ap, ap₂, ◌∙◌, arith}
 use Rattle.std.proofs.lemmas.Bool.{ne_eqb, eq-eqb}
-use Rattle.std.proofs.lemmas.Bool.Decides.{eqb_tells}
-use Rattle.store_model.specs.Sets.{is_in}
-use Rattle.store_model.specs.ObjectWords.{words_from, updated}
+use Rattle.object_model.specs.ObjectWords.{words_from, updated}
 
 pub updated-here : (w : ℕ → ℕ) (at x b : ℕ) → b ≡ at → updated w at x b ≡ x
 updated-here w at x b e = rw (eq-eqb b at e) refl
@@ -51,61 +49,4 @@ words_from-zeros w p (suc n) z =
 
 -- members of a list of places
 
-or-left : (a b : Bool) → IsTrue a → IsTrue (a || b)
-or-left true b t = refl
-or-left false b t = absurd (let no : ⊥ = cc in no)
-
-or-right : (a b : Bool) → IsTrue b → IsTrue (a || b)
-or-right true b t = refl
-or-right false b t = t
-
-pub is_in-head : (p : ℕ) (ps : List ℕ) → IsTrue (is_in p (p ∷ ps))
-is_in-head p ps = rw (eq-eqb p p refl) refl
-
-pub is_in-tail : (p q : ℕ) (ps : List ℕ) → IsTrue (is_in p ps) → IsTrue (is_in p (q ∷ ps))
-is_in-tail p q ps t = or-right (q == p) (is_in p ps) t
-
--- a member of a longer list is the first or one of the others
-pub is_in-cases : (p q : ℕ) (ps : List ℕ) → IsTrue (is_in p (q ∷ ps)) → (p ≡ q) ⊎ IsTrue (is_in p ps)
-is_in-cases p q ps t = elim (eqb_tells q p) [
-  | inl e ↦ inl (sym e.1)
-  | inr e ↦ inr (rw e.0 at t)
-]
-
-pub is_in-nil : (p : ℕ) → IsTrue (is_in p []) → ⊥
-is_in-nil p t = let no : ⊥ = cc in no
-
--- two functions that agree at the members
-pub map-same : {X : Type 0} → (f g : ℕ → X) (ps : List ℕ) → ((p : ℕ) → IsTrue (is_in p ps) → f p ≡ g p)
-    → map f ps ≡ map g ps
-map-same f g [] same = refl
-map-same f g (p ∷ ps) same =
-    ap₂ (λ x xs. x ∷ xs) (same p (is_in-head p ps)) (map-same f g ps (λ q t. same q (is_in-tail q p ps t)))
-
 -- members of a list with one more at its end
-
-pub is_in-last : (ps : List ℕ) (a : ℕ) → IsTrue (is_in a (ps ++ a ∷ []))
-is_in-last [] a = is_in-head a []
-is_in-last (q ∷ ps) a = is_in-tail a q (ps ++ a ∷ []) (is_in-last ps a)
-
-pub is_in-before : (ps : List ℕ) (a x : ℕ) → IsTrue (is_in x ps) → IsTrue (is_in x (ps ++ a ∷ []))
-is_in-before [] a x t = absurd (is_in-nil x t)
-is_in-before (q ∷ ps) a x t = elim (is_in-cases x q ps t) [
-  | inl e ↦ let P : ℕ → Type 0 = λ k. IsTrue (is_in k (q ∷ (ps ++ a ∷ []))) in subst P (sym e) (is_in-head q (ps ++ a ∷ []))
-  | inr u ↦ is_in-tail x q (ps ++ a ∷ []) (is_in-before ps a x u)
-]
-
-more-cases : (ps : List ℕ) (a q x : ℕ) → (x ≡ a) ⊎ IsTrue (is_in x ps) → (x ≡ a) ⊎ IsTrue (is_in x (q ∷ ps))
-more-cases ps a q x (inl e) = inl e
-more-cases ps a q x (inr t) = inr (is_in-tail x q ps t)
-
-first-cases : (ps : List ℕ) (a q x : ℕ) → x ≡ q → (x ≡ a) ⊎ IsTrue (is_in x (q ∷ ps))
-first-cases ps a q x e =
-    inr (let P : ℕ → Type 0 = λ k. IsTrue (is_in k (q ∷ ps)) in subst P (sym e) (is_in-head q ps))
-
-pub is_in-append : (ps : List ℕ) (a x : ℕ) → IsTrue (is_in x (ps ++ a ∷ [])) → (x ≡ a) ⊎ IsTrue (is_in x ps)
-is_in-append [] a x t = is_in-cases x a [] t
-is_in-append (q ∷ ps) a x t = elim (is_in-cases x q (ps ++ a ∷ []) t) [
-  | inl e ↦ first-cases ps a q x e
-  | inr u ↦ more-cases ps a q x (is_in-append ps a x u)
-]

@@ -3,8 +3,8 @@ use Rattle.std.specs.Prelude.{◌≡◌, ◌≢◌, ℕ, ◌+◌, ◌-◌, ◌<�
 use Rattle.type_table.specs.declared.info.TypeInfo.{TypeInfo}
 use Rattle.type_table.specs.Table.{Table}
 use Rattle.heap_space.specs.Runs.{within}
-use Rattle.store_model.specs.Sets.{is_in}
-use Rattle.store_model.specs.ObjectWords.{updated, words_at, Covers}
+use Rattle.object_model.specs.Sets.{is_in}
+use Rattle.object_model.specs.ObjectWords.{updated, words_at, Covers}
 
 -- the words, with n of them copied from one place to another
 abbrev pub copied : (ℕ → ℕ) → ℕ → ℕ → ℕ → ℕ → ℕ

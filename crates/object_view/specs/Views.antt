@@ -2,8 +2,8 @@
 use Rattle.std.specs.Prelude.{ℕ, ◌+◌, ◌^◌, ◌≤◌, ◌<◌, IsTrue, IsSome}
 use Rattle.type_table.specs.declared.info.TypeInfo.{TypeInfo}
 use Rattle.type_table.specs.Table.{Table, value_at}
-use Rattle.store_model.specs.Layout.{Layout}
-use Rattle.store_model.specs.ObjectWords.{layout_at, type_id_at, words_at}
+use Rattle.object_model.specs.Layout.{Layout}
+use Rattle.object_model.specs.ObjectWords.{layout_at, type_id_at, words_at}
 use Rattle.heap_space.specs.Places.{word_at, lies_in_one}
 use Rattle.heap_space.specs.Memory.{Memory}
 use Rattle.object_view.specs.declared.fields.ObjView.{ObjView}

@@ -4,8 +4,8 @@
 
 ghost use Rattle.std.specs.Prelude.{◌≡◌, ◌+◌, ◌^◌, ◌<◌, IsTrue, IsSome};
 ghost use Rattle.type_table.specs.Table.{value_at};
-ghost use Rattle.store_model.specs.Layout.{layout_of};
-ghost use Rattle.store_model.specs.ObjectWords.{info_or_weak};
+ghost use Rattle.object_model.specs.Layout.{layout_of};
+ghost use Rattle.object_model.specs.ObjectWords.{info_or_weak};
 ghost use Rattle.heap_space.specs.Places.{word_at, with_word, lies_in_one};
 ghost use Rattle.object_view.specs.Views.{HasObject, HasView, view_of, view_at};
 

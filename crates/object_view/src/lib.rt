@@ -2,9 +2,11 @@
 #![tactic(auto)]
 
 mod birth;
+mod copying;
 mod fields;
 
-pub use birth::init;
+pub use birth::{Birth, init};
+pub use copying::move_refs;
 pub use fields::{ObjView, int_at, ref_at, set_int, set_ref, view};
 
 #[cfg(test)]

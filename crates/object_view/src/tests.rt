@@ -3,7 +3,7 @@
 ghost use Rattle.std.specs.Prelude.{◌≡◌, ◌≤◌, Some, IfOk, IsTrue};
 ghost use Rattle.type_table.specs.Table.{value_at};
 ghost use Rattle.type_table.specs.Words.{words_in};
-ghost use Rattle.store_model.specs.Layout.{layout_of};
+ghost use Rattle.object_model.specs.Layout.{layout_of};
 ghost use Rattle.heap_space.specs.Places.{lies_in_one};
 ghost use Rattle.object_view.specs.Views.{HasView, view_of};
 
@@ -41,7 +41,13 @@ fn newborn(space: &mut Space, types: &TypeTable, info: TypeInfo, len: u64) -> Ob
     ensures view { result ≡ view_of 7 9 (layout_of info.shape 5 len) }
     ensures whole { HasView space.new result 5 }
 {
-    init(space, 5, 7, 9, info, len);
+    let birth = Birth {
+        header: 7,
+        number: 9,
+        len,
+        target: 0,
+    };
+    init(space, 5, info, birth);
     view(space, types, 5)
 }
 
@@ -127,5 +133,25 @@ fn weak_object(rt: HostRuntime) -> Result<(), Fail> {
     assert_eq!(rt; words(&space), [1, 7, 9, 50, 1, 1, 1, 1, 1]);
     assert_eq!(rt; ref_at(&space, v, 5, 0), 50);
     assert_eq!(rt; v.ref_count, 0);
+    Ok(())
+}
+
+#[test]
+#[tactic(auto, using(crate::proofs::WholeLaws::views))]
+fn references_within_one_array(rt: HostRuntime) -> Result<(), Fail> {
+    let info = TypeInfo {
+        shape: Shape::RefArray,
+        destructor: false,
+    };
+    let types = table_of(rt.alloc(), info)?;
+    let mut space = ones(rt.alloc())?;
+    let v = newborn(&mut space, &types, info, 4);
+    set_ref(&mut space, v, 5, 0, 50);
+    set_ref(&mut space, v, 5, 1, 60);
+    set_ref(&mut space, v, 5, 2, 70);
+    move_refs(&mut space, v, 5, 1, v, 5, 0, 3);
+    assert_eq!(rt; words(&space), [1, 7, 9, 4, 50, 50, 60, 70, 1]);
+    move_refs(&mut space, v, 5, 0, v, 5, 1, 3);
+    assert_eq!(rt; words(&space), [1, 7, 9, 4, 50, 60, 70, 70, 1]);
     Ok(())
 }

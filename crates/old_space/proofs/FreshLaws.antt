@@ -6,7 +6,7 @@ use Rattle.object_header.specs.Words.{has_flag, IsHeader}
 use Rattle.object_header.specs.declared.flags.Flag.TheVariants.{Free}
 use Rattle.size_pages.specs.Headers.{IsHeaded}
 use Rattle.size_pages.specs.PageWords.{word_in}
-use Rattle.store_model.specs.declared.settings.Settings.{Settings}
+use Rattle.object_model.specs.declared.settings.Settings.{Settings}
 use Rattle.large_objects.proofs.LargeLaws.{larges-fresh}
 use Rattle.old_space.specs.Calls.{IsEmptyFor}
 

@@ -1,5 +1,5 @@
 -- One step of a sweep, by the part whose turn it is.
-use Rattle.std.proofs.Common.{◌≡◌, ℕ, ◌+◌, ◌<◌, List, [], ◌∷◌, ◌++◌, length, Result, Ok, Err, OnOk, OnErr, refl, sym, ap, ◌∙◌, arith, subst, length-append}
+use Rattle.std.proofs.Common.{◌≡◌, ℕ, ◌+◌, ◌<◌, List, [], inl, inr, ◌∷◌, ◌++◌, length, Result, Ok, Err, OnOk, OnErr, refl, sym, ap, ◌∙◌, arith, subst, length-append}
 use Rattle.std.specs.declared.alloc.AllocError.{AllocError}
 use Rattle.std.specs.List.Sorted.{IsPermutation}
 use Rattle.std.proofs.lemmas.List.{append_cancel_left}
@@ -14,7 +14,8 @@ use Rattle.size_pages.specs.PageWords.{IsInArenas}
 use Rattle.size_pages.specs.Sweeping as page_sweep
 use Rattle.size_pages.specs.declared.Pages.{Pages}
 use Rattle.large_objects.specs.Large as larges
-use Rattle.large_objects.specs.Sweep.{swept, left_over, freed_births}
+use Rattle.std.proofs.lemmas.Bool.{cases_Bool}
+use Rattle.large_objects.specs.Sweep.{is_kept, swept, left_over, freed_births}
 use Rattle.large_objects.specs.declared.Large.{Large}
 use Rattle.large_objects.proofs.Same.{same-permutation}
 use Rattle.old_space.specs.HasBlocks.{HasBlocks}
@@ -50,15 +51,16 @@ some-page old m small large live unit rest (u ∷ w) wb p after before now birth
 
 page-lowest : (old : Old) (p : Pages) (m after : Memory) (before now births : List ℕ) → 0 < old.pages.waiting
     → ((s : List Extent) (page : ℕ) (w : List ℕ) → headers.HasHeaders old.pages m s (page ∷ w) → page_sweep.SweepsPage p m after old.pages.page s page w before now)
-    → now ≡ before ++ births → IsInArenas m after → p.small ≡ old.pages.small
+    → now ≡ before ++ births → IsInArenas m after → pages.KeepsSizes old.pages p
     → SweepsLowest old m (record { pages = p; large = old.large; small = old.small }) after births
-page-lowest old p m after before now births some contract appended arenas size = record {
+page-lowest old p m after before now births some contract appended arenas sizes = record {
   lowest = λ live unit rest h.
       let b = h.blocks in
-      some-page old m b.small b.large live unit rest b.waiting_pages b.waiting_blocks p after before now births some contract appended arenas size
+      some-page old m b.small b.large live unit rest b.waiting_pages b.waiting_blocks p after before now births some contract appended arenas sizes.small
       b.in_pages b.in_larges b.same b.greatest h.headed b.waits;
   outside = outside-pages m after (outside-arenas m after arenas);
-  small = refl;
+  arena_words = arenas.arena_words;
+  sizes = record { page = sizes.page; arena = sizes.pages_per_arena; small = refl };
 }
 
 -- the page that is to be swept
@@ -70,13 +72,13 @@ page-ready old m s some = go s.has.blocks.waiting_pages s.has.blocks.in_pages (s
 
 pub page-step : {T : Type 0} (old : Old) (p : Pages) (m after : Memory) (before now : List ℕ) (r : Result T AllocError) → StandsWithHeaders old m → 0 < old.pages.waiting
     → ((s : List Extent) (page : ℕ) (w : List ℕ) → headers.HasHeaders old.pages m s (page ∷ w) → OnOk r (page_sweep.SweepsPage p m after old.pages.page s page w before now))
-    → IsInArenas m after → p.small ≡ old.pages.small
+    → IsInArenas m after → pages.KeepsSizes old.pages p
     → OnOk r ((births : List ℕ) × (now ≡ before ++ births) × SweepsLowest old m (record { pages = p; large = old.large; small = old.small }) after births)
-page-step old p m after before now (Ok x) s some contract arenas size =
+page-step old p m after before now (Ok x) s some contract arenas sizes =
     let can = page-ready old m s some in
     let sw = contract can.live can.page can.rest can.has in
-    (sw.births, sw.appended, page-lowest old p m after before now sw.births some contract sw.appended arenas size)
-page-step old p m after before now (Err e) s some contract arenas size = tt
+    (sw.births, sw.appended, page-lowest old p m after before now sw.births some contract sw.appended arenas sizes)
+page-step old p m after before now (Err e) s some contract arenas sizes = tt
 
 -- the units that are left
 pub page-less : {T : Type 0} (old : Old) (p : Pages) (m after : Memory) (before now : List ℕ) (r : Result T AllocError) → StandsWithHeaders old m → 0 < old.pages.waiting
@@ -159,6 +161,10 @@ next-in l m live (a ∷ w) h some = record { live = live; first = a; rest = w; b
 pub block-next : (old : Old) (m : Memory) → StandsWithHeaders old m → old.pages.waiting ≡ 0 → 0 < units_left old → HasNext old.large m
 block-next old m s none some = next-in old.large m s.has.blocks.large s.has.blocks.waiting_blocks s.has.blocks.in_larges (omega (arith, none))
 
+-- no arena changes its words
+swept-arenas : (m : Memory) (a : ℕ) → (swept m a).arena_words ≡ m.arena_words
+swept-arenas m a = elim (cases_Bool (is_kept m a)) [ inl e ↦ rw e refl | inr e ↦ rw e refl ]
+
 pub block-step : {T : Type 0} (old : Old) (l : Large) (m after : Memory) (before now : List ℕ) (r : Result T AllocError) → StandsWithHeaders old m
     → old.pages.waiting ≡ 0 → 0 < units_left old → IsInOrder m
     → ((s : List Extent) (a : ℕ) (w : List ℕ) → larges.HasBlocks old.large m s (a ∷ w) → OnOk r (larges.HasBlocks l after (left_over m a s) w))
@@ -177,7 +183,8 @@ block-step old l m after before now (Ok x) s none some o blocks space told outsi
             some-block old m b.small b.large live unit rest b.waiting_pages b.waiting_blocks l after before now (freed_births m n.first) none o blocks space told
             appended outside b.in_pages b.in_larges b.same b.greatest h.headed b.waits;
         outside = outside-larges m after outside;
-        small = refl;
+        arena_words = ap (λ (k : Memory). k.arena_words) (space n.live n.first n.rest n.blocks) ∙ swept-arenas m n.first;
+        sizes = record { page = refl; arena = refl; small = refl };
       },
     )
 block-step old l m after before now (Err e) s none some o blocks space told outside = tt

@@ -2,11 +2,12 @@
 use Rattle.std.specs.Prelude.{◌≡◌, ℕ, ◌*◌, ◌<◌, ◌≤◌, nat_lt, if◌then◌else◌, List, [], length, map, All, Contains}
 use Rattle.heap_space.specs.Memory.{Memory, without_large}
 use Rattle.heap_space.specs.Extents.{Extent, Each}
+use Rattle.size_pages.specs.HasBlocks.{page_count}
 use Rattle.size_pages.specs.Calls.{page_of, ChangesAround}
 use Rattle.size_pages.specs.PageWords.{word_in}
-use Rattle.store_model.specs.declared.settings.Settings.{Settings}
+use Rattle.object_model.specs.declared.settings.Settings.{Settings}
 use Rattle.large_objects.specs.Blocks.{larges_of, without_place}
-use Rattle.old_space.specs.HasBlocks.{HasBlocks, IsLive}
+use Rattle.old_space.specs.HasBlocks.{HasBlocks, IsLive, page_size}
 use Rattle.old_space.specs.declared.Old.{Old}
 
 -- the settings of pages lie in their ranges
@@ -34,7 +35,7 @@ still_waiting a waiting = if nat_lt a 1099511627776 then waiting else without_pl
 
 -- the unit of the block at a: its page, or the large block itself
 abbrev pub unit_of : Old → ℕ → ℕ
-unit_of old a = if nat_lt a 1099511627776 then page_of old.pages.page a else a
+unit_of old a = if nat_lt a 1099511627776 then page_of (page_size old) a else a
 
 -- the units of the blocks
 abbrev pub units_of : Old → List Extent → List ℕ
@@ -47,7 +48,7 @@ IsElsewhere old waiting a = ¬ (Contains waiting (unit_of old a))
 -- What giving back the block at a changes. Of a page: the block's words 0 and 1, the page's header, and words 4 and 5 of
 -- at most three other pages. A large block goes, and nothing else changes.
 pub record GivesBack (old : Old) (m after : Memory) (a : ℕ) : Type 0 where
-  pub page : a < 1099511627776 → ChangesAround (word_in m) (word_in after) old.pages.page old.pages.count (page_of old.pages.page a) a
+  pub page : a < 1099511627776 → ChangesAround (word_in m) (word_in after) (page_size old) (page_count old.pages) (page_of (page_size old) a) a
   pub large : 1099511627776 ≤ a → after ≡ without_large m a
 
 -- a live block begins at the place

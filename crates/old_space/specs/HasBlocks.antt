@@ -38,6 +38,20 @@ pub record IsLive (old : Old) (m : Memory) (x : Extent) : Type 0 where
 abbrev pub greatest_small : Old → ℕ
 greatest_small old = old.small
 
+-- the words of a page
+abbrev pub page_size : Old → ℕ
+page_size old = pages.page_size old.pages
+
+-- the pages of an arena
+abbrev pub arena_pages : Old → ℕ
+arena_pages old = pages.arena_pages old.pages
+
+-- the numbers that the blocks were made with stay
+pub record KeepsSizes (old new : Old) : Type 0 where
+  pub page : page_size new ≡ page_size old
+  pub arena : arena_pages new ≡ arena_pages old
+  pub small : greatest_small new ≡ greatest_small old
+
 -- what is known of a live block: it lies in one block of the memory, outside the nursery, and has two words or more
 pub record IsBlock (m : Memory) (x : Extent) : Type 0 where
   pub lies : IsTrue (lies_in_one m.blocks x.0 x.1)

@@ -8,13 +8,13 @@ use Rattle.object_header.specs.declared.flags.Flag.TheVariants.{Visited}
 use Rattle.size_pages.specs.PageWords.{word_in}
 use Rattle.size_pages.specs.LiveBlocks.{in_page}
 use Rattle.size_pages.specs.Sweeping.{is_dead, birth_in}
-use Rattle.old_space.specs.HasBlocks.{greatest_small}
+use Rattle.old_space.specs.HasBlocks.{KeepsSizes, page_size}
 use Rattle.old_space.specs.Headers.{HasHeaders}
 use Rattle.old_space.specs.declared.Old.{Old}
 
 -- whether the block is of the unit: it lies in the page, or is the large block
 abbrev pub in_unit : Old → ℕ → Extent → Bool
-in_unit old unit x = if nat_lt unit 1099511627776 then in_page old.pages.page unit x else x.0 == unit
+in_unit old unit x = if nat_lt unit 1099511627776 then in_page (page_size old) unit x else x.0 == unit
 
 -- whether the block goes where the unit is swept: its object was not visited, and it is no reserved home
 abbrev pub dies : Old → Memory → ℕ → Extent → Bool
@@ -41,7 +41,8 @@ pub record SweepsUnit (old : Old) (m : Memory) (new : Old) (after : Memory) (bir
 pub record SweepsLowest (old : Old) (m : Memory) (new : Old) (after : Memory) (births : List ℕ) : Type 0 where
   pub lowest : (live : List Extent) (unit : ℕ) (rest : List ℕ) → HasHeaders old m live (unit ∷ rest) → SweepsUnit old m new after births live unit rest
   pub outside : KeepsOutside 4294967296 9223372036854775808 m after
-  pub small : greatest_small new ≡ greatest_small old
+  pub arena_words : after.arena_words ≡ m.arena_words
+  pub sizes : KeepsSizes old new
 
 -- how many units wait
 abbrev pub units_left : Old → ℕ

@@ -6,8 +6,8 @@ use Rattle.std.proofs.lemmas.List.{take_more, map-append}
 use Rattle.std.proofs.lemmas.List.Elements.{filter_map-append, filter-append}
 use Rattle.type_table.specs.Table.{Table, KeysRise, value_at, without_key}
 use Rattle.type_table.proofs.TableLaws.{KeysRise-with_value, value_at-with_value, value_at-without_key}
-use Rattle.store_model.specs.declared.line.LinkEnd.{LinkEnd}
-use Rattle.store_model.specs.Sets.{is_in}
+use Rattle.text_model.specs.declared.line.LinkEnd.{LinkEnd}
+use Rattle.object_model.specs.Sets.{is_in}
 use Rattle.store_model.specs.Store.{Struct, Linked, Unlinked, Pending}
 use Rattle.store_model.specs.Structs.{with_struct, with_object}
 use Rattle.store_model.specs.Links.{newly_dead, is_queued_by}

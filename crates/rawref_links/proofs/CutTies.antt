@@ -7,9 +7,9 @@ use Rattle.std.proofs.lemmas.List.Elements.{All-cons, All-head, All-tail}
 use Rattle.std.proofs.lemmas.List.Folds.{list_any-append, list_any_at}
 use Rattle.type_table.specs.Table.{Table, KeysRise, value_at}
 use Rattle.type_table.proofs.TableLaws.{KeysRise-tail, KeysRise-cons, first_key_below}
-use Rattle.store_model.specs.declared.line.LinkEnd.{LinkEnd}
-use Rattle.store_model.specs.declared.line.Fate.TheVariants as fate
-use Rattle.store_model.specs.Sets.{is_in}
+use Rattle.text_model.specs.declared.line.LinkEnd.{LinkEnd}
+use Rattle.text_model.specs.declared.line.Fate.TheVariants as fate
+use Rattle.object_model.specs.Sets.{is_in}
 use Rattle.store_model.specs.Store.{Struct, Linked, Unlinked, Pending}
 use Rattle.rawref_links.specs.Conditions.{is_pending}
 use Rattle.store_model.specs.Links.{fate_of, left_by, link_end, link_ends, struct_after, entry_after, is_queued_by, newly_dead}

@@ -6,7 +6,7 @@ use Rattle.std.proofs.lemmas.List.Folds.{list_any-append}
 use Rattle.std.proofs.lemmas.Bool.Decides.{nat_tests}
 use Rattle.type_table.specs.Table.{Table, KeysRise, value_at, with_value, without_key}
 use Rattle.type_table.proofs.TableLaws.{KeysRise-with_value, KeysRise-entries_where, value_at-with_value, value_at-without_key}
-use Rattle.store_model.specs.Sets.{is_in}
+use Rattle.object_model.specs.Sets.{is_in}
 use Rattle.store_model.specs.Store.{Struct}
 use Rattle.store_model.specs.Structs.{with_struct}
 use Rattle.rawref_links.specs.Structures.{slot_at, structs_in, AreKeyed, is_forcing}

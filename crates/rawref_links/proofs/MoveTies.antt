@@ -7,7 +7,7 @@ use Rattle.std.proofs.lemmas.List.Elements.{All-cons, All-head, All-tail}
 use Rattle.std.proofs.lemmas.Map.Made.{lookup-map_values}
 use Rattle.type_table.specs.Table.{Table, KeysRise, value_at, without_key}
 use Rattle.type_table.proofs.TableLaws.{KeysRise-tail, KeysRise-cons, first_key_below, value_at-without_key}
-use Rattle.store_model.specs.Sets.{is_in}
+use Rattle.object_model.specs.Sets.{is_in}
 use Rattle.store_model.specs.Store.{Struct, Linked, Unlinked, Pending}
 use Rattle.store_model.specs.Structs.{with_object, with_objects}
 use Rattle.rawref_links.specs.Conditions.{is_pending}

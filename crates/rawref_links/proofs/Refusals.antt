@@ -4,7 +4,7 @@ use Rattle.std.specs.List.{find}
 use Rattle.std.proofs.lemmas.Bool.Decides.{nat_tests}
 use Rattle.type_table.specs.Table.{Table}
 use Rattle.store_model.specs.Store.{Struct, Linked, Unlinked, Pending}
-use Rattle.store_model.specs.declared.structure.StructState.TheVariants as state
+use Rattle.object_model.specs.declared.structure.StructState.TheVariants as state
 use Rattle.store_model.specs.Structs.{state_of, p_link_of}
 use Rattle.store_model.specs.StructChecks.{is_absent, is_pending, own_count, is_p_link_of, has_p_link}
 use Rattle.rawref_links.specs.Conditions.{CanRise, CanFall}

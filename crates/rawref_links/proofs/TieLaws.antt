@@ -6,7 +6,7 @@ use Rattle.std.proofs.lemmas.Bool.Decides.{nat_tests}
 use Rattle.std.proofs.lemmas.List.Folds.{list_any-append}
 use Rattle.type_table.specs.Table.{Table, KeysRise, value_at, with_value, without_key}
 use Rattle.type_table.proofs.TableLaws.{KeysRise-tail, KeysRise-with_value, value_at-with_value, value_at-with_value_same}
-use Rattle.store_model.specs.Sets.{is_in}
+use Rattle.object_model.specs.Sets.{is_in}
 use Rattle.store_model.specs.Store.{Struct, Linked, Unlinked, Pending}
 use Rattle.store_model.specs.Structs.{with_struct, p_link_of, raised, lowered}
 use Rattle.store_model.specs.StructChecks.{is_p_link_of}

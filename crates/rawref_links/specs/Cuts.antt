@@ -3,8 +3,8 @@ use Rattle.std.specs.Prelude.{◌≡◌, ℕ, true, if◌then◌else◌, IsSome,
 use Rattle.std.specs.List.{All}
 use Rattle.std.specs.List.Sorted.{IsStrictlyIncreasing}
 use Rattle.type_table.specs.Table.{Table, KeysRise, value_at, with_value}
-use Rattle.store_model.specs.declared.line.LinkEnd.{LinkEnd}
-use Rattle.store_model.specs.Sets.{is_in}
+use Rattle.text_model.specs.declared.line.LinkEnd.{LinkEnd}
+use Rattle.object_model.specs.Sets.{is_in}
 use Rattle.store_model.specs.Store.{Struct}
 use Rattle.store_model.specs.Structs.{with_object}
 use Rattle.store_model.specs.Links.{link_end, struct_after}

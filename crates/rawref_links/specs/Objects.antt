@@ -1,7 +1,7 @@
 -- The links of each object, found by its place.
 use Rattle.std.specs.Prelude.{ℕ, Bool, if◌then◌else◌, List, [], ◌∷◌, ◌++◌, Option, Some, None}
 use Rattle.std.specs.List.{list_any}
-use Rattle.store_model.specs.Sets.{is_in}
+use Rattle.object_model.specs.Sets.{is_in}
 use Rattle.type_table.specs.Table.{Table, value_at, with_value, without_key}
 
 -- the structures that are linked with one object: the one with a P link, and all of them, in the order of their links

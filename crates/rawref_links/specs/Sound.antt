@@ -1,7 +1,7 @@
 -- What holds of the structures and the dead queue at any time.
 use Rattle.std.specs.Prelude.{◌≡◌, ℕ, Bool, false, IsTrue, List, [], ◌∷◌, Option, Some, None}
 use Rattle.type_table.specs.Table.{Table, KeysRise, value_at}
-use Rattle.store_model.specs.Sets.{is_in}
+use Rattle.object_model.specs.Sets.{is_in}
 use Rattle.store_model.specs.Store.{Struct}
 use Rattle.store_model.specs.Structs.{Structs}
 use Rattle.store_model.specs.StructChecks.{is_p_link_of}

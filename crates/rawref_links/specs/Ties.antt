@@ -1,7 +1,7 @@
 -- What ties the structures, the links of each object and the dead queue.
 use Rattle.std.specs.Prelude.{◌≡◌, ℕ, Bool, false, ◌==◌, List, Option, Some, None}
 use Rattle.type_table.specs.Table.{Table, value_at}
-use Rattle.store_model.specs.Sets.{is_in}
+use Rattle.object_model.specs.Sets.{is_in}
 use Rattle.store_model.specs.Store.{Struct}
 use Rattle.store_model.specs.Structs.{is_link_of}
 use Rattle.rawref_links.specs.Objects.{LinksOf, links_at}

@@ -4,7 +4,7 @@ ghost use Rattle.std.specs.Prelude.{◌≡◌, ◌+◌, ◌≤◌, ◌++◌, ℕ
 ghost use Rattle.std.specs.VecDeque.{deque_len, deque_capacity};
 ghost use Rattle.std.specs.List.Sorted.{IsStrictlyIncreasing};
 ghost use Rattle.type_table.specs.Table.{KeysRise, value_at};
-ghost use Rattle.store_model.specs.Sets.{is_in};
+ghost use Rattle.object_model.specs.Sets.{is_in};
 ghost use Rattle.store_model.specs.Structs.{with_struct};
 ghost use Rattle.store_model.specs.Links.{newly_dead};
 ghost use Rattle.rawref_links.specs.Cuts.{end_of, left_of, ends_of, CutsAt, MovesAt, with_moved, AreListed};

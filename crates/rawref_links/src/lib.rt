@@ -6,7 +6,7 @@
 
 ghost use Rattle.std.specs.Prelude.{◌≡◌, ◌≤◌, ◌==◌, ◌++◌, ◌↔◌, [], IsTrue, IsSome, Some, None, IfOk, OnOk, OnErr, IsSomeAnd, option_map, option_and_then, slice_get, if◌then◌else◌};
 ghost use Rattle.type_table.specs.Table.{value_at, with_value};
-ghost use Rattle.store_model.specs.Sets.{is_in};
+ghost use Rattle.object_model.specs.Sets.{is_in};
 ghost use Rattle.store_model.specs.Store.{Linked, Unlinked};
 ghost use Rattle.store_model.specs.Structs.{state_of, count_of, object_of, p_link_of, with_struct, raised, lowered, take_dead, forced_objects, with_objects};
 ghost use Rattle.store_model.specs.Links.{link_ends, cut_links};

@@ -3,7 +3,7 @@
 ghost use Rattle.std.specs.Prelude.{◌≡◌, [], ℕ, None, Some, IfOk, OnOk, OnErr, if◌then◌else◌};
 ghost use Rattle.type_table.specs.Table.{value_at, with_value, without_key};
 ghost use Rattle.rawref_links.specs.Objects.{no_links, links_at, with_link, moved_to, is_at_one};
-ghost use Rattle.store_model.specs.Sets.{is_in};
+ghost use Rattle.object_model.specs.Sets.{is_in};
 
 use indexmap::IndexMap;
 use std::alloc::{AllocError, Global};

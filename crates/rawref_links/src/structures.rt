@@ -2,7 +2,7 @@
 
 ghost use Rattle.std.specs.Prelude.{◌≡◌, ◌+◌, ◌≤◌, ◌++◌, [], ℕ, None, IsSome, IfOk, OnOk, OnErr, length, filter_map, vec_len, vec_capacity};
 ghost use Rattle.type_table.specs.Table.{value_at, with_value, without_key};
-ghost use Rattle.store_model.specs.Sets.{is_in};
+ghost use Rattle.object_model.specs.Sets.{is_in};
 ghost use Rattle.rawref_links.specs.Structures.{is_forcing, forced_at};
 
 use crate::structure::Structure;

@@ -2,13 +2,13 @@
 use Rattle.std.proofs.Common.{◌≡◌, ℕ, ◌+◌, List, [], ◌∷◌, ◌++◌, length, map, Result, Ok, None, refl, sym, ap, ◌∙◌, subst, arith, append_assoc, append-nil}
 use Rattle.std.proofs.lemmas.Grind.{flat_map-append}
 use Rattle.std.proofs.lemmas.List.{map-append}
-use Rattle.store_model.specs.declared.item.Item.{Item}
-use Rattle.store_model.specs.declared.item.Reason.{Reason}
-use Rattle.store_model.specs.Script.{reading, readings}
+use Rattle.text_model.specs.declared.item.Item.{Item}
+use Rattle.text_model.specs.declared.item.Reason.{Reason}
+use Rattle.text_model.specs.Script.{reading, readings}
 use Rattle.store_model.specs.Progress.{Progress, at_start}
 use Rattle.store_model.specs.Refusal.{refusal}
-use Rattle.store_model.specs.Transcript.{Group, ItemDoes, Runs}
-use Rattle.store_model.specs.Text.{lines_text, transcript_text}
+use Rattle.store_model.specs.Transcript.{Group, ItemDoes, Runs, transcript_text}
+use Rattle.text_model.specs.Text.{lines_text}
 use Rattle.store_model.specs.EndOfRun.{IsDone, TakesLine}
 
 -- a run goes on by one item

@@ -7,34 +7,35 @@ use Rattle.script_text.specs.declared.reader.ReadEnd.{ReadEnd}
 use Rattle.script_text.specs.declared.reader.ReadEnd.TheVariants.{TooMany, TooLong, ReadFault as ReaderFault}
 use Rattle.script_text.specs.Reader.{ReaderState, ahead, IsInStep, HandsOut, Begins, Longer}
 use Rattle.script_text.specs.Reading.{Reads}
-use Rattle.store_model.specs.declared.item.Reason.{Reason}
-use Rattle.store_model.specs.declared.item.Reason.TheVariants.{TooManyLines, LineTooLong}
-use Rattle.store_model.specs.Lines.{lines_of, whole_text}
-use Rattle.store_model.specs.Script.{reading}
-use Rattle.store_model.specs.Setup.{defaults}
+use Rattle.text_model.specs.declared.item.Reason.{Reason}
+use Rattle.text_model.specs.declared.item.Reason.TheVariants.{TooManyLines, LineTooLong}
+use Rattle.text_model.specs.Lines.{lines_of, whole_text}
+use Rattle.text_model.specs.Script.{reading}
 use Rattle.store_model.specs.Progress.{at_start}
-use Rattle.store_model.specs.EndOfRun.{IsRefused, TakesLine, Stands, StopsAt}
+use Rattle.store_model.specs.Transcript.{transcript_text}
+use Rattle.store_model.specs.EndOfRun.{IsRefused, ExceedsLimit, AddsGroups, Stands, StopsAt}
 use Rattle.session_core.specs.Seen.{SessionSeen}
 use Rattle.replay_top.specs.declared.line.Stop.{Stop}
-use Rattle.replay_top.specs.declared.line.Stop.TheVariants.{Malformed, OutOfMemory, ReadFault, WriteFault}
-use Rattle.heap_core.specs.Parts.{HeapSeen, closed_heap}
-use Rattle.heap_core.specs.StandsFor.{StandsFor}
+use Rattle.replay_top.specs.declared.line.Stop.TheVariants.{Malformed, HeapLimit, OutOfMemory, ReadFault, WriteFault}
+use Rattle.heap_core.specs.Heap.{HeapSeen, closed_heap}
+use Rattle.session_core.specs.Standing.{HeapStandsAt}
 use Rattle.replay_top.specs.Lines.{EndsLine}
 use Rattle.replay_top.specs.Run.{EndsRun, stop_of_reader}
 use Rattle.replay_top.proofs.DoneLaws.{IsDone-none}
 use Rattle.replay_top.proofs.RunsOn.{RunsOn, LeadsOn, whole_lines_of-part}
-use Rattle.session_core.proofs.Places.{closed_stands, stands_for}
+use Rattle.session_core.proofs.Places.{heap_stands, heap_stands_first}
 
-stands_none : (written : Option (List ℕ)) (heap : HeapSeen) → heap ≡ closed_heap → Stands [] written written (StandsFor heap)
-stands_none written heap closed = rw closed (record { after = at_start; text = []; done = IsDone-none; appended = Appends-nil written; store = closed_stands defaults })
+stands_none : (written : Option (List ℕ)) (heap : HeapSeen) → heap ≡ closed_heap → Stands [] written written (HeapStandsAt heap)
+stands_none written heap closed = rw closed (record { after = at_start; text = []; done = IsDone-none; appended = Appends-nil written; stands_for = heap_stands_first })
 
-pub ends_unbegun : (script rest written : Option (List ℕ)) (heap : HeapSeen) → heap ≡ closed_heap → EndsRun script rest written written heap (Err ReadFault)
-ends_unbegun None rest written heap closed = tt
-ends_unbegun (Some script) rest written heap closed = record { taken = []; begins = inl refl; stands = stands_none written heap closed }
+pub ends_unbegun : (script : Option (List ℕ)) (begun begun_after : Option ℕ) (rest written : Option (List ℕ)) (heap : HeapSeen) → begun_after ≡ begun → heap ≡ closed_heap
+    → EndsRun script begun begun_after rest written written heap (Err ReadFault)
+ends_unbegun None begun begun_after rest written heap same closed = tt
+ends_unbegun (Some script) begun begun_after rest written heap same closed = record { taken = []; begins = inl (same, refl); stands = stands_none written heap closed }
 
-pub ends_unread : (script rest written : Option (List ℕ)) (heap : HeapSeen) (answer : Result (Unit {0}) Stop) → answer ≡ Err OutOfMemory → EndsRun script rest written written heap answer
-ends_unread None rest written heap answer is = tt
-ends_unread (Some script) rest written heap answer is = rw is (record { front = []; behind = lines_of script; lines = refl; after = at_start; text = []; done = IsDone-none; appended = Appends-nil written })
+pub ends_unread : (script : Option (List ℕ)) (begun begun_after : Option ℕ) (rest written : Option (List ℕ)) (heap : HeapSeen) (answer : Result (Unit {0}) Stop) → answer ≡ Err OutOfMemory → EndsRun script begun begun_after rest written written heap answer
+ends_unread None begun begun_after rest written heap answer is = tt
+ends_unread (Some script) begun begun_after rest written heap answer is = rw is (record { front = []; behind = lines_of script; lines = refl; after = at_start; text = []; done = IsDone-none; appended = Appends-nil written })
 
 leads_all : (script : List ℕ) (here : Option (List ℕ)) (lines : List (List ℕ)) → LeadsOn (Some script) here lines → IsAtEnd here → lines ≡ lines_of script
 leads_all script None lines leads end = absurd leads
@@ -45,15 +46,15 @@ rest_at_end held None end = tt
 rest_at_end [] (Some xs) end = end
 rest_at_end (b ∷ held) (Some xs) end = cc
 
-stands_now : (script rest before written : Option (List ℕ)) (reader : ReaderState) (number : ℕ) (session : SessionSeen) (heap : HeapSeen) (run : RunsOn script rest before written reader number session heap) → Stands run.lines before written (StandsFor heap)
-stands_now script rest before written reader number session heap run = record { after = run.at; text = run.text; done = run.done; appended = run.appended; store = stands_for session heap run.at run.stands }
+stands_now : (script rest before written : Option (List ℕ)) (reader : ReaderState) (number : ℕ) (session : SessionSeen) (heap : HeapSeen) (run : RunsOn script rest before written reader number session heap) → Stands run.lines before written (HeapStandsAt heap)
+stands_now script rest before written reader number session heap run = record { after = run.at; text = run.text; done = run.done; appended = run.appended; stands_for = heap_stands session heap run.at run.stands }
 
-pub ends_done : (script rest rest_after before written : Option (List ℕ)) (reader new : ReaderState) (number : ℕ) (session : SessionSeen) (heap : HeapSeen)
+pub ends_done : (script : Option (List ℕ)) (begun begun_after : Option ℕ) (rest rest_after before written : Option (List ℕ)) (reader new : ReaderState) (number : ℕ) (session : SessionSeen) (heap : HeapSeen)
     → RunsOn script rest before written reader number session heap → IsAtEnd (ahead reader rest) → new.ended ≡ true → IsInStep new rest_after
-    → EndsRun script rest_after before written heap (Ok tt)
-ends_done None rest rest_after before written reader new number session heap run end ended step = tt
-ends_done (Some script) rest rest_after before written reader new number session heap run end ended step = (
-  subst (λ (lines : List (List ℕ)). Stands lines before written (StandsFor heap)) (leads_all script (ahead reader rest) run.lines run.leads end)
+    → EndsRun script begun begun_after rest_after before written heap (Ok tt)
+ends_done None begun begun_after rest rest_after before written reader new number session heap run end ended step = tt
+ends_done (Some script) begun begun_after rest rest_after before written reader new number session heap run end ended step = (
+  subst (λ (lines : List (List ℕ)). Stands lines before written (HeapStandsAt heap)) (leads_all script (ahead reader rest) run.lines run.leads end)
       (stands_now (Some script) rest before written reader number session heap run),
   rest_at_end new.held rest_after (step ended),
 )
@@ -84,7 +85,7 @@ too_long k line few long = rw (le-ltb 16000000 k few, lt-ltb 200 (length line) (
 
 refuses_at : (script : List ℕ) (rest before written : Option (List ℕ)) (reader : ReaderState) (number n : ℕ) (session : SessionSeen) (heap : HeapSeen) (reason : Reason)
     → RunsOn (Some script) rest before written reader number session heap → Longer n (ahead reader rest)
-    → ((line : List ℕ) → n ≤ length line → reading (number + 1) line ≡ Err reason) → StopsAt script before written (StandsFor heap) (number + 1) reason
+    → ((line : List ℕ) → n ≤ length line → reading (number + 1) line ≡ Err reason) → StopsAt script before written (HeapStandsAt heap) (number + 1) reason
 refuses_at script rest before written reader number n session heap reason run longer refuses =
     let next = leads_line script (ahead reader rest) run.lines n run.leads longer in
     record {
@@ -97,31 +98,31 @@ refuses_at script rest before written reader number n session heap reason run lo
       refused = inl (refuses next.0 next.3);
     }
 
-pub ends_reading : (script rest rest_after before written : Option (List ℕ)) (reader new : ReaderState) (number : ℕ) (session : SessionSeen) (heap : HeapSeen) (buf : List ℕ) (end : ReadEnd) (stop : Stop)
+pub ends_reading : (script : Option (List ℕ)) (begun begun_after : Option ℕ) (rest rest_after before written : Option (List ℕ)) (reader new : ReaderState) (number : ℕ) (session : SessionSeen) (heap : HeapSeen) (buf : List ℕ) (end : ReadEnd) (stop : Stop)
     → RunsOn script rest before written reader number session heap → Reads reader new rest rest_after buf (Err end) → stop ≡ stop_of_reader (number + 1) end
-    → EndsRun script rest_after before written heap (Err stop)
-ends_reading None rest rest_after before written reader new number session heap buf end stop run reads is = tt
-ends_reading (Some script) rest rest_after before written reader new number session heap buf TooMany stop run reads is =
+    → EndsRun script begun begun_after rest_after before written heap (Err stop)
+ends_reading None begun begun_after rest rest_after before written reader new number session heap buf end stop run reads is = tt
+ends_reading (Some script) begun begun_after rest rest_after before written reader new number session heap buf TooMany stop run reads is =
     rw is (refuses_at script rest before written reader number 0 session heap TooManyLines run reads.1 (λ line long. too_many (number + 1) line (omega (arith, run.number_is, reads.0))))
-ends_reading (Some script) rest rest_after before written reader new number session heap buf TooLong stop run reads is =
+ends_reading (Some script) begun begun_after rest rest_after before written reader new number session heap buf TooLong stop run reads is =
     rw is (refuses_at script rest before written reader number 201 session heap LineTooLong run reads.1 (λ line long. too_long (number + 1) line (omega (arith, run.number_is, reads.0)) long))
-ends_reading (Some script) rest rest_after before written reader new number session heap buf ReaderFault stop run reads is =
+ends_reading (Some script) begun begun_after rest rest_after before written reader new number session heap buf ReaderFault stop run reads is =
     let part = reads.1.0 in
     rw is (record {
       taken = whole_text run.lines ++ part;
       begins = inr (Consumes-trans (Some script) (ahead reader rest) rest_after (whole_text run.lines) part (run.bytes reads.0) reads.1.2);
-      stands = subst (λ (lines : List (List ℕ)). Stands lines before written (StandsFor heap))
+      stands = subst (λ (lines : List (List ℕ)). Stands lines before written (HeapStandsAt heap))
           (sym (run.whole part ∙ ap (λ rest. run.lines ++ rest) (whole_lines_of-part part reads.1.1) ∙ append-nil run.lines))
           (stands_now (Some script) rest before written reader number session heap run);
     })
 
-pub ends_line : (script rest rest_after before written written_after : Option (List ℕ)) (reader new : ReaderState) (number : ℕ) (line : List ℕ) (session session_after : SessionSeen) (heap heap_after : HeapSeen) (stop : Stop)
+pub ends_line : (script : Option (List ℕ)) (begun begun_after : Option ℕ) (rest rest_after before written written_after : Option (List ℕ)) (reader new : ReaderState) (number : ℕ) (line : List ℕ) (session session_after : SessionSeen) (heap heap_after : HeapSeen) (stop : Stop)
     (run : RunsOn script rest before written reader number session heap)
     → HandsOut reader new (ahead reader rest) (ahead new rest_after) line
     → EndsLine run.at (number + 1) line written written_after session_after heap_after (Err stop)
-    → EndsRun script rest_after before written_after heap_after (Err stop)
-ends_line None rest rest_after before written written_after reader new number line session session_after heap heap_after stop run hands ends = tt
-ends_line (Some script) rest rest_after before written written_after reader new number line session session_after heap heap_after (Malformed k reason) run hands ends =
+    → EndsRun script begun begun_after rest_after before written_after heap_after (Err stop)
+ends_line None begun begun_after rest rest_after before written written_after reader new number line session session_after heap heap_after stop run hands ends = tt
+ends_line (Some script) begun begun_after rest rest_after before written written_after reader new number line session session_after heap heap_after (Malformed k reason) run hands ends =
     let next = leads_to script (ahead reader rest) (ahead new rest_after) run.lines line run.leads hands.begins in
     record {
       front = run.lines;
@@ -129,11 +130,29 @@ ends_line (Some script) rest rest_after before written written_after reader new 
       behind = next.0;
       lines = next.1;
       number = ends.0 ∙ ap (λ n. n + 1) run.count;
-      stands = record { after = run.at; text = run.text; done = run.done; appended = Appends-kept before written written_after run.text run.appended ends.2; store = stands_for session_after heap_after run.at ends.3 };
+      stands = record { after = run.at; text = run.text; done = run.done; appended = Appends-kept before written written_after run.text run.appended ends.2; stands_for = heap_stands session_after heap_after run.at ends.3 };
       refused = subst (λ n. IsRefused run.at n line reason) (sym ends.0) ends.1;
     }
-ends_line (Some script) rest rest_after before written written_after reader new number line session session_after heap heap_after ReadFault run hands ends = absurd ends
-ends_line (Some script) rest rest_after before written written_after reader new number line session session_after heap heap_after WriteFault run hands ends =
+ends_line (Some script) begun begun_after rest rest_after before written written_after reader new number line session session_after heap heap_after (HeapLimit k counted request limit) run hands ends =
+    let next = leads_to script (ahead reader rest) (ahead new rest_after) run.lines line run.leads hands.begins in
+    let e = ends.1 in
+    record {
+      front = run.lines;
+      line = line;
+      behind = next.0;
+      lines = next.1;
+      number = ends.0 ∙ ap (λ n. n + 1) run.count;
+      mid = run.at;
+      text = run.text;
+      done = run.done;
+      groups = e.groups;
+      after = e.after;
+      exceeds = subst (λ n. ExceedsLimit run.at n line counted request limit e.groups e.after) (sym ends.0) e.exceeds;
+      appended = Appends-trans before written written_after run.text (transcript_text e.groups) run.appended e.text;
+      stands_for = heap_stands session_after heap_after e.after e.stands;
+    }
+ends_line (Some script) begun begun_after rest rest_after before written written_after reader new number line session session_after heap heap_after ReadFault run hands ends = absurd ends
+ends_line (Some script) begun begun_after rest rest_after before written written_after reader new number line session session_after heap heap_after WriteFault run hands ends =
     let next = leads_to script (ahead reader rest) (ahead new rest_after) run.lines line run.leads hands.begins in
     record {
       front = run.lines;
@@ -145,15 +164,15 @@ ends_line (Some script) rest rest_after before written written_after reader new 
       done = run.done;
       groups = ends.groups;
       after = ends.after;
-      takes = subst (λ n. TakesLine run.at n line ends.groups ends.after) (ap (λ n. n + 1) run.count) ends.takes;
+      adds = subst (λ n. AddsGroups run.at n line ends.groups ends.after) (ap (λ n. n + 1) run.count) ends.adds;
       part = ends.text.part;
       cut = ends.text.rest;
       parts = ends.text.text_is;
       some = ends.text.some;
       appended = Appends-trans before written written_after run.text ends.text.part run.appended ends.text.written;
-      store = stands_for session_after heap_after ends.after ends.stands;
+      stands_for = heap_stands session_after heap_after ends.after ends.stands;
     }
-ends_line (Some script) rest rest_after before written written_after reader new number line session session_after heap heap_after OutOfMemory run hands ends =
+ends_line (Some script) begun begun_after rest rest_after before written written_after reader new number line session session_after heap heap_after OutOfMemory run hands ends =
     let next = leads_some script (ahead reader rest) run.lines run.leads in
     record {
       front = run.lines;

@@ -5,14 +5,14 @@ use Rattle.std.specs.Io.KnownBytes.{Appends, Consumes, IsAtEnd, prepend_known}
 use Rattle.std.proofs.KnownBytes.{Appends-trans, Appends-nil, Consumes-trans}
 use Rattle.std.proofs.lemmas.Bool.{and_parts, not-true, both_ways}
 use Rattle.std.proofs.lemmas.Grind.{flat_map-append}
-use Rattle.store_model.specs.Lines.{lines_of, whole_lines_of, in_front_of_first, whole_text}
-use Rattle.store_model.specs.Setup.{defaults}
+use Rattle.text_model.specs.Lines.{lines_of, whole_lines_of, in_front_of_first, whole_text}
+use Rattle.object_model.specs.Setup.{defaults}
 use Rattle.store_model.specs.Progress.{Progress, at_start}
 use Rattle.store_model.specs.EndOfRun.{IsDone}
-use Rattle.store_model.specs.Text.{transcript_text}
+use Rattle.store_model.specs.Transcript.{transcript_text}
 use Rattle.script_text.specs.Reader.{ReaderState, ahead, IsInStep, HandsOut, Begins, is_one_line}
 use Rattle.session_core.specs.Seen.{SessionSeen}
-use Rattle.heap_core.specs.Parts.{HeapSeen, closed_heap}
+use Rattle.heap_core.specs.Heap.{HeapSeen, closed_heap}
 use Rattle.session_core.proofs.Places.{stands_first}
 use Rattle.session_core.specs.Standing.{StandsAt}
 use Rattle.replay_top.specs.Lines.{DoesLine}

@@ -3,12 +3,12 @@ use Rattle.std.specs.Prelude.{◌≡◌, ℕ, List, [], ◌∷◌, Option, Some,
 use Rattle.std.specs.Io.KnownBytes.{Appends}
 use Rattle.heap_io.specs.Causes.{Rose}
 use Rattle.store_model.specs.EndOfRun.{IsNeverRefused}
-use Rattle.store_model.specs.ErrorText.{malformed_text, memory_text, read_fault_text, write_fault_text}
+use Rattle.store_model.specs.ErrorText.{malformed_text, limit_text, memory_text, read_fault_text, write_fault_text}
 use Rattle.replay_top.specs.declared.line.Stop.{Stop}
 use Rattle.replay_top.specs.declared.line.Stop.TheVariants as stops
 use Rattle.replay_top.specs.declared.top.Status.{Status}
 use Rattle.replay_top.specs.declared.top.Status.TheVariants as statuses
-use Rattle.heap_core.specs.Parts.{HeapSeen}
+use Rattle.heap_core.specs.Heap.{HeapSeen}
 use Rattle.replay_top.specs.Written.{WritesPart}
 use Rattle.replay_top.specs.Run.{EndsRun}
 
@@ -20,6 +20,7 @@ asked words = None
 -- what is told of a stop
 abbrev pub stop_text : Stop → List ℕ
 stop_text (stops.Malformed k reason) = malformed_text k reason
+stop_text (stops.HeapLimit k counted request limit) = limit_text k counted request limit
 stop_text stops.OutOfMemory = memory_text
 stop_text stops.ReadFault = read_fault_text
 stop_text stops.WriteFault = write_fault_text
@@ -31,6 +32,7 @@ answer_text (Err stop) = stop_text stop
 
 abbrev pub stop_status : Stop → Status
 stop_status (stops.Malformed k reason) = statuses.Malformed
+stop_status (stops.HeapLimit k counted request limit) = statuses.HeapLimit
 stop_status stops.OutOfMemory = statuses.OutOfMemory
 stop_status stops.ReadFault = statuses.ReadFault
 stop_status stops.WriteFault = statuses.WriteFault
@@ -44,13 +46,13 @@ abbrev pub Tells : Option (List ℕ) → Option (List ℕ) → ℕ → ℕ → L
 Tells before told faults_before faults text = Appends before told text ⊎ (Rose faults_before faults × WritesPart before told text)
 
 -- What stands after `replay FILE`, by the status: one answer of the replay has this status and this text.
-pub record Replays (script rest before written before_told told : Option (List ℕ)) (faults_before faults : ℕ) (heap : HeapSeen) (status : Status) : Type 0 where
+pub record Replays (script : Option (List ℕ)) (begun begun_after : Option ℕ) (rest before written before_told told : Option (List ℕ)) (faults_before faults : ℕ) (heap : HeapSeen) (status : Status) : Type 0 where
   pub answer : Result (Unit {0}) Stop
   pub status_is : status ≡ answer_status answer
-  pub ends : EndsRun script rest before written heap answer
+  pub ends : EndsRun script begun begun_after rest before written heap answer
   pub tells : Tells before_told told faults_before faults (answer_text answer)
 
--- Where no line is refused and no count of faults rose, the run comes to its end, or memory runs out.
+-- Where no line is refused, nor by the limit, and no count of faults rose, the run comes to its end, or memory runs out.
 abbrev pub IsComplete : Option (List ℕ) → Type 0 → Type 0 → Status → Type 0
 IsComplete None read_rose write_rose status = Unit {0}
 IsComplete (Some script) read_rose write_rose status =

@@ -1,24 +1,34 @@
 //! One line of the script: it is read, done, and its text is written.
-ghost use Rattle.std.specs.Prelude.{◌≡◌, ◌≤◌, length, IsErrOf};
+ghost use Rattle.std.specs.Prelude.{◌≡◌, ◌≤◌, length, IsErrOf, All};
 ghost use Rattle.heap_io.specs.Causes.{Rose, HasCause};
 ghost use Rattle.store_model.specs.Progress.{Progress};
-ghost use Rattle.store_model.specs.Script.{bad_reason};
+ghost use Rattle.text_model.specs.Script.{bad_reason};
+ghost use Rattle.text_model.specs.Text.{IsProper};
 ghost use Rattle.session_core.specs.Standing.{IsPlaced, StandsAt};
-ghost use Rattle.replay_top.specs.Written.{Writes};
-ghost use Rattle.replay_top.specs.Lines.{EndsLine, stop_of};
+ghost use Rattle.replay_top.specs.Written.{Writes, WritesLines};
+ghost use Rattle.replay_top.specs.Lines.{EndsLine};
 
 use heap_core::Heap;
 use heap_io::{Failed, Sink};
 use line_text::print_lines;
 use script_text::parse_line;
 use session_core::{RunFault, Session};
-use std::alloc::{AllocError, Global};
-use store_model::{BadLine, Reason};
+use std::alloc::AllocError;
+use store_model::{BadLine, Line, Reason};
 
 /// Why a run stops before the script's end.
 #[derive(Clone, Copy, Debug, PartialEq, Eq)]
 pub(crate) enum Stop {
-    Malformed { line: u64, reason: Reason },
+    Malformed {
+        line: u64,
+        reason: Reason,
+    },
+    HeapLimit {
+        line: u64,
+        counted: u64,
+        request: u64,
+        limit: u64,
+    },
     OutOfMemory,
     ReadFault,
     WriteFault,
@@ -46,13 +56,30 @@ pub(crate) fn write_all<K: Sink>(out: &mut K, text: &[u8]) -> Result<(), Failed>
     Ok(())
 }
 
-/// Does a line of the script, and writes its text.
+/// Writes the text of lines. What `text` held is gone.
+fn write_lines<K: Sink>(lines: &[Line], text: &mut Vec<u8>, out: &mut K) -> Result<(), Stop>
+    requires { All IsProper lines.now }
+    ensures ends { WritesLines lines.now (K.written out.old) (K.written out.new) result }
+    ensures later { K.faults out.old ≤ K.faults out.new }
+    ensures fault { IsErrOf result Stop.WriteFault → Rose (K.faults out.old) (K.faults out.new) }
+{
+    text.clear();
+    print_lines(lines, text)?;
+    match write_all(out, text) {
+        Ok(()) => Ok(()),
+        Err(Failed) => Err(Stop::WriteFault),
+    }
+}
+
+/// Does a line of the script, and writes its text; where the limit refuses it, that of its collections. What `lines` and
+/// `text` held is gone.
 pub(crate) fn do_line<K: Sink>(
-    alloc: Global,
     line: &[u8],
     number: u64,
     session: &mut Session,
     heap: &mut Heap,
+    lines: &mut Vec<Line>,
+    text: &mut Vec<u8>,
     out: &mut K,
 ) -> Result<(), Stop>
     requires number { number ≤ 16000000 }
@@ -70,16 +97,29 @@ pub(crate) fn do_line<K: Sink>(
             reason: bad_reason(bad),
         }),
     };
-    let mut lines = Vec::new(alloc);
-    match session.item(heap, &item, &mut lines) {
-        Ok(()) => {}
-        Err(fault) => return Err(stop_of(number, fault)),
-    }
-    let mut text = Vec::new(alloc);
-    print_lines(&lines, &mut text)?;
-    match write_all(out, &text) {
-        Ok(()) => Ok(()),
-        Err(Failed) => Err(Stop::WriteFault),
+    lines.clear();
+    match session.item(heap, &item, lines) {
+        Ok(()) => write_lines(lines, text, out),
+        Err(
+            RunFault::HeapLimit {
+                counted,
+                request,
+                limit,
+            },
+        ) => match write_lines(lines, text, out) {
+            Ok(()) => Err(Stop::HeapLimit {
+                line: number,
+                counted,
+                request,
+                limit,
+            }),
+            Err(stop) => Err(stop),
+        },
+        Err(RunFault::Malformed(reason)) => Err(Stop::Malformed {
+            line: number,
+            reason,
+        }),
+        Err(RunFault::OutOfMemory) => Err(Stop::OutOfMemory),
     }
 }
 
@@ -90,15 +130,5 @@ fn bad_reason(bad: BadLine) -> Reason
     match bad {
         BadLine::Syntax => Reason::Syntax,
         BadLine::Range => Reason::Range,
-    }
-}
-
-/// How a run stops where an item of a line is not done.
-fn stop_of(line: u64, fault: RunFault) -> Stop
-    ensures { result ≡ stop_of line fault }
-{
-    match fault {
-        RunFault::Malformed(reason) => Stop::Malformed { line, reason },
-        RunFault::OutOfMemory => Stop::OutOfMemory,
     }
 }

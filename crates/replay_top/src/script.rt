@@ -1,7 +1,7 @@
 //! A whole script, from its first line on.
 ghost use Rattle.std.specs.Prelude.{◌≡◌, ◌≤◌, IsTrue, IsErrOf};
 ghost use Rattle.heap_io.specs.Causes.{Rose};
-ghost use Rattle.heap_core.specs.Parts.{closed_heap};
+ghost use Rattle.heap_core.specs.Heap.{closed_heap};
 ghost use Rattle.replay_top.specs.Run.{EndsRun, stop_of_reader};
 
 use crate::line::{Stop, do_line};
@@ -22,7 +22,7 @@ pub(crate) fn replay<F: Files, K: Sink>(
 ) -> Result<(), Stop>
     requires may_begin { IsTrue (F.may_begin files.old name.now) }
     requires closed { heap.old ≡ closed_heap }
-    ensures ends { EndsRun (F.bytes files.old name.now) (F.rest files.new) (K.written out.old) (K.written out.new) heap.new result }
+    ensures ends { EndsRun (F.bytes files.old name.now) (F.begun files.old) (F.begun files.new) (F.rest files.new) (K.written out.old) (K.written out.new) heap.new result }
     ensures read { IsErrOf result Stop.ReadFault → Rose (F.faults files.old) (F.faults files.new) }
     ensures write { IsErrOf result Stop.WriteFault → Rose (K.faults out.old) (K.faults out.new) }
     ensures read_later { F.faults files.old ≤ F.faults files.new }
@@ -33,14 +33,25 @@ pub(crate) fn replay<F: Files, K: Sink>(
     };
     let mut reader = LineReader::new(alloc)?;
     let mut session = Session::new(alloc)?;
+    let mut lines = Vec::new(alloc);
+    let mut text = Vec::new(alloc);
     let mut line = [0; 200];
     let mut number = 0;
-    'lines: loop {
+    'script: loop {
         match reader.next(files, &mut line) {
             Ok(None) => return Ok(()),
             Ok(Some(length)) => {
                 number += 1;
-                match do_line(alloc, &line[..length], number, &mut session, heap, out) {
+                let bytes = &line[..length];
+                match do_line(
+                    bytes,
+                    number,
+                    &mut session,
+                    heap,
+                    &mut lines,
+                    &mut text,
+                    out,
+                ) {
                     Ok(()) => {}
                     Err(stop) => return Err(stop),
                 }

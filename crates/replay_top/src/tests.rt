@@ -1,14 +1,18 @@
 //! What no clause says: that runs come to their ends with ample memory, and the texts that they write.
 
+use crate::line::Stop;
+use crate::tell::tell_stop;
 use crate::{Status, run};
 use heap_core::Heap;
 use heap_io::{MemFiles, MemSink, NamedFile};
 use std::alloc::{AllocError, Global};
 use std::test::Fail;
 
-/// A script of the file `s`, and how `replay s` ends on it.
+/// A script of the file `s`, the calls of the files and of the sink that fail, and how `replay s` ends on it.
 struct Row {
     script: &'static [u8],
+    read_fails: &'static [u64],
+    write_fails: &'static [u64],
     out: &'static [u8],
     err: &'static [u8],
     status: Status,
@@ -22,9 +26,11 @@ struct Outcome {
     err: Vec<u8>,
 }
 
-/// Runs `replay s` on a script, where these calls of the files and of the sink fail.
-fn replayed(
+/// Runs the program for words, where these calls of the files and of the sink fail. The script is the one file, by the
+/// name `s`.
+fn answered(
     alloc: Global,
+    words: &[&str],
     script: &[u8],
     read_fails: &[u64],
     write_fails: &[u64],
@@ -38,10 +44,11 @@ fn replayed(
     let mut out = MemSink::new(alloc, 10_000, Vec::from_slice(alloc, write_fails)?)?;
     let mut err = MemSink::new(alloc, 1000, Vec::new(alloc))?;
     let mut heap = Heap::closed();
-    let mut words = Vec::new(alloc);
-    words.push(String::from_str(alloc, "replay")?)?;
-    words.push(String::from_str(alloc, "s")?)?;
-    let status = run(alloc, &words, &mut files, &mut out, &mut err, &mut heap);
+    let mut texts = Vec::new(alloc);
+    for word in words {
+        texts.push(String::from_str(alloc, word)?)?;
+    }
+    let status = run(alloc, &texts, &mut files, &mut out, &mut err, &mut heap);
     Ok(Outcome {
         status,
         out: Vec::from_slice(alloc, out.written())?,
@@ -49,241 +56,406 @@ fn replayed(
     })
 }
 
-const ROWS: [Row; 38] = [
+const ROWS: [Row; 48] = [
     Row {
         script: b"",
+        read_fails: &[],
+        write_fails: &[],
         out: b"",
         err: b"",
         status: Status::Done,
     },
     Row {
         script: b"type 1 fixed 1 0\nnew 0 1\nput 0 0 18446744073709551615\nget 0 0\n",
+        read_fails: &[],
+        write_fails: &[],
         out: b"new 1 young\ngot 18446744073709551615\n",
         err: b"",
         status: Status::Done,
     },
     Row {
         script: b"type 1 fixed 0 1\nnew 0 1\nload 1 0 0\nload 2 1 0\n",
+        read_fails: &[],
+        write_fails: &[],
         out: b"new 1 young\nloaded nil\n",
         err: b"malformed: line 4: NilRoot\n",
         status: Status::Malformed,
     },
     Row {
         script: b"type 1 fixed 1 0\nnew 0 1",
+        read_fails: &[],
+        write_fails: &[],
         out: b"new 1 young\n",
         err: b"",
         status: Status::Done,
     },
     Row {
         script: b"type 1 fixed 1 0\nnew 0 1\nget 0 00\n",
+        read_fails: &[],
+        write_fails: &[],
         out: b"new 1 young\n",
         err: b"malformed: line 3: Syntax\n",
         status: Status::Malformed,
     },
     Row {
         script: b"new 0 1\n",
+        read_fails: &[],
+        write_fails: &[],
         out: b"",
         err: b"malformed: line 1: NoType\n",
         status: Status::Malformed,
     },
     Row {
         script: b"type 1 fixed 0 0\nnew 256 1\n",
+        read_fails: &[],
+        write_fails: &[],
         out: b"",
         err: b"malformed: line 2: NoRoot\n",
         status: Status::Malformed,
     },
     Row {
         script: b"type 1 fixed 0 0\nnew 0 1 3\n",
+        read_fails: &[],
+        write_fails: &[],
         out: b"",
         err: b"malformed: line 2: WrongShape\n",
         status: Status::Malformed,
     },
     Row {
         script: b"type 1 ints\nnew 0 1 2\nput 0 2 1\n",
+        read_fails: &[],
+        write_fails: &[],
         out: b"new 1 young\n",
         err: b"malformed: line 3: NoItem\n",
         status: Status::Malformed,
     },
     Row {
         script: b"type 1 ints\nnew 0 1 16777217\n",
+        read_fails: &[],
+        write_fails: &[],
         out: b"",
         err: b"malformed: line 2: Range\n",
         status: Status::Malformed,
     },
     Row {
         script: b"type 1 fixed 1 0\nnew 0 1\nput 0 0 18446744073709551616\n",
+        read_fails: &[],
+        write_fails: &[],
         out: b"new 1 young\n",
         err: b"malformed: line 3: Syntax\n",
         status: Status::Malformed,
     },
     Row {
         script: b"set pins 1\nset pins 1\n",
+        read_fails: &[],
+        write_fails: &[],
         out: b"",
         err: b"malformed: line 2: SetTwice\n",
         status: Status::Malformed,
     },
     Row {
         script: b"set pins 1025\n",
+        read_fails: &[],
+        write_fails: &[],
         out: b"",
         err: b"malformed: line 1: SetRange\n",
         status: Status::Malformed,
     },
     Row {
         script: b"type 1 ints\ntype 1 refs\n",
+        read_fails: &[],
+        write_fails: &[],
         out: b"",
         err: b"malformed: line 2: TypeTwice\n",
         status: Status::Malformed,
     },
     Row {
         script: b"drop  0\n",
+        read_fails: &[],
+        write_fails: &[],
         out: b"",
         err: b"malformed: line 1: Syntax\n",
         status: Status::Malformed,
     },
     Row {
         script: b"type 1 fixed 1 0\nnew 0 1\nminor\n",
+        read_fails: &[],
+        write_fails: &[],
         out: b"new 1 young\n",
         err: b"malformed: line 3: NotBuilt\n",
         status: Status::Malformed,
     },
     Row {
         script: b"set nursery 16\ntype 1 fixed 2 0\nnew 0 1\nnew 0 1\nnew 0 1\nnew 0 1\nnew 0 1\n",
+        read_fails: &[],
+        write_fails: &[],
         out: b"new 1 young\nnew 2 young\nnew 3 young\nnew 4 young\n",
         err: b"malformed: line 7: NotBuilt\n",
         status: Status::Malformed,
     },
     Row {
         script: b"type 1 fixed 1 0\nnew 0 1\nput 0 0 300\nget 0 0\n",
+        read_fails: &[],
+        write_fails: &[],
         out: b"new 1 young\ngot 300\n",
         err: b"",
         status: Status::Done,
     },
     Row {
         script: b"type 1 refs\ntype 2 fixed 1 1\nnew 0 1 3\nnew 1 2\nput 1 0 7\nlink 0 2 1\ndrop 1\nload 2 0 2\nget 2 0\nlink 0 2 9\nload 3 0 2\nsame 3 4\n",
+        read_fails: &[],
+        write_fails: &[],
         out: b"new 1 young\nnew 2 young\nloaded 2\ngot 7\nloaded nil\nsame yes\n",
         err: b"",
         status: Status::Done,
     },
     Row {
         script: b"set roots 2\ntype 3 ints\nnew 0 3 2\nmove 1 0\nput 1 1 5\nget 0 1\nsame 0 1\ndrop 0\nsame 0 1\nget 0 1\n",
+        read_fails: &[],
+        write_fails: &[],
         out: b"new 1 young\ngot 5\nsame yes\nsame no\n",
         err: b"malformed: line 10: NilRoot\n",
         status: Status::Malformed,
     },
     Row {
-        script: b"type 1 fixed 1 0 destructor\n",
-        out: b"",
-        err: b"malformed: line 1: NotBuilt\n",
+        script: b"type 1 fixed 1 0 destructor\nnew 0 1\nstep\n",
+        read_fails: &[],
+        write_fails: &[],
+        out: b"new 1 young\n",
+        err: b"malformed: line 3: NotBuilt\n",
         status: Status::Malformed,
     },
     Row {
         script: b"set young 9\ntype 1 ints\nnew 0 1 6\nnew 0 1 7\n",
+        read_fails: &[],
+        write_fails: &[],
         out: b"new 1 young\nnew 2 old\n",
         err: b"",
         status: Status::Done,
     },
     Row {
         script: b"set limit 64\nset nursery 1000\ntype 1 ints\nnew 0 1 61\nnew 0 1 0\n",
+        read_fails: &[],
+        write_fails: &[],
         out: b"new 1 young\n",
         err: b"malformed: line 5: NotBuilt\n",
         status: Status::Malformed,
     },
     Row {
         script: b"type 1 ints\nnew 0 1 0\ntype 2 refs\n",
+        read_fails: &[],
+        write_fails: &[],
         out: b"new 1 young\n",
         err: b"malformed: line 3: Late\n",
         status: Status::Malformed,
     },
     Row {
         script: b"copyrefs 0 0 300 0 0\n",
+        read_fails: &[],
+        write_fails: &[],
         out: b"",
         err: b"malformed: line 1: NotBuilt\n",
         status: Status::Malformed,
     },
     Row {
         script: b"copyrefs 0 0 65536 0 0\n",
+        read_fails: &[],
+        write_fails: &[],
         out: b"",
         err: b"malformed: line 1: Range\n",
         status: Status::Malformed,
     },
     Row {
         script: b"used\nset pins 1\n",
+        read_fails: &[],
+        write_fails: &[],
         out: b"used 0 0\n",
         err: b"malformed: line 2: Late\n",
         status: Status::Malformed,
     },
     Row {
         script: b"type 1 ints\nnew 0 1 1100\nused\n",
+        read_fails: &[],
+        write_fails: &[],
         out: b"new 1 old\nused 1103 0\n",
         err: b"",
         status: Status::Done,
     },
     Row {
         script: b"type 1 ints\nnew 0 1 1021\nnew 1 1 1022\nused\n",
+        read_fails: &[],
+        write_fails: &[],
         out: b"new 1 young\nnew 2 old\nused 2049 0\n",
         err: b"",
         status: Status::Done,
     },
     Row {
         script: b"set nursery 16\nset young 17\ntype 1 ints\nnew 0 1 13\nused\nnew 1 1 0\n",
+        read_fails: &[],
+        write_fails: &[],
         out: b"new 1 young\nused 16 0\n",
         err: b"malformed: line 6: NotBuilt\n",
         status: Status::Malformed,
     },
     Row {
         script: b"set nursery 64\nset young 8\ntype 1 ints\nnew 0 1 5\nnew 1 1 53\nused\nnew 2 1 0\n",
+        read_fails: &[],
+        write_fails: &[],
         out: b"new 1 young\nnew 2 old\nused 64 0\n",
         err: b"malformed: line 7: NotBuilt\n",
         status: Status::Malformed,
     },
     Row {
         script: b"set nursery 64\nset young 8\ntype 1 ints\nnew 0 1 5\nnew 1 1 54\n",
+        read_fails: &[],
+        write_fails: &[],
         out: b"new 1 young\n",
         err: b"malformed: line 5: NotBuilt\n",
         status: Status::Malformed,
     },
     Row {
         script: b"set limit 64\nset young 8\ntype 1 ints\nnew 0 1 5\nnew 1 1 53\nused\nnew 2 1 0\n",
+        read_fails: &[],
+        write_fails: &[],
         out: b"new 1 young\nnew 2 old\nused 64 0\n",
         err: b"malformed: line 7: NotBuilt\n",
         status: Status::Malformed,
     },
     Row {
         script: b"set limit 64\nset young 8\ntype 1 ints\nnew 0 1 5\nnew 1 1 54\n",
+        read_fails: &[],
+        write_fails: &[],
         out: b"new 1 young\n",
         err: b"malformed: line 5: NotBuilt\n",
         status: Status::Malformed,
     },
     Row {
         script: b"set nursery 1048576\nset limit 16777216\ntype 1 ints\nnew 0 1 16777216\n",
+        read_fails: &[],
+        write_fails: &[],
         out: b"",
         err: b"malformed: line 4: NotBuilt\n",
         status: Status::Malformed,
     },
     Row {
         script: b"set young 8\ntype 1 refs\ntype 2 fixed 1 1\nnew 0 1 7\nnew 1 2\nput 1 0 7\nlink 0 6 1\nlink 1 0 0\ndrop 1\nload 2 0 6\nget 2 0\nload 3 2 0\nsame 3 0\nload 4 3 0\ndrop 0\ndrop 3\nload 5 2 0\nload 6 5 6\nused\n",
+        read_fails: &[],
+        write_fails: &[],
         out: b"new 1 old\nnew 2 young\nloaded 2\ngot 7\nloaded 1\nsame yes\nloaded nil\nloaded 1\nloaded 2\nused 14 0\n",
         err: b"",
         status: Status::Done,
     },
     Row {
         script: b"set young 8\ntype 1 fixed 7 1\ntype 2 ints\nnew 0 1\nput 0 6 11\nnew 1 2 62\nput 1 0 13\nput 1 61 18446744073709551615\nnew 2 1\nlink 2 0 1\nlink 0 0 2\nload 3 0 0\nload 4 3 0\nget 0 6\nget 3 6\nget 4 0\nget 4 1\nget 4 61\nused\n",
+        read_fails: &[],
+        write_fails: &[],
         out: b"new 1 old\nnew 2 old\nnew 3 old\nloaded 3\nloaded 2\ngot 11\ngot 0\ngot 13\ngot 0\ngot 18446744073709551615\nused 85 0\n",
         err: b"",
         status: Status::Done,
     },
     Row {
         script: b"set young 8\nset page 64\nset arena 1\nset small 4096\ntype 1 ints\nnew 0 1 53\nnew 1 1 54\nnew 2 1 53\nput 0 52 1\nput 1 53 2\nget 0 52\nget 1 53\nget 2 52\nused\n",
+        read_fails: &[],
+        write_fails: &[],
         out: b"new 1 old\nnew 2 old\nnew 3 old\ngot 1\ngot 2\ngot 0\nused 169 0\n",
         err: b"",
         status: Status::Done,
+    },
+    Row {
+        script: b"type 1 fixed 1 0\nnew 0 1\nwhere 0\npin 0\npin 0\nunpin 0\nunpin 0\nunpin 0\n",
+        read_fails: &[],
+        write_fails: &[],
+        out: b"new 1 young\nwhere young\npin yes\npin yes\n",
+        err: b"malformed: line 8: NotPinned\n",
+        status: Status::Malformed,
+    },
+    Row {
+        script: b"type 1 fixed 0 0\nnew 0 1\nregister 0 3\n",
+        read_fails: &[],
+        write_fails: &[],
+        out: b"new 1 young\n",
+        err: b"malformed: line 3: NotBuilt\n",
+        status: Status::Malformed,
+    },
+    Row {
+        script: b"type 1 fixed 0 0\ntype 2 weak\nnew 0 1\nweak 1 2 0\n",
+        read_fails: &[],
+        write_fails: &[],
+        out: b"new 1 young\n",
+        err: b"malformed: line 4: NotBuilt\n",
+        status: Status::Malformed,
+    },
+    Row {
+        script: b"type 1 refs\nnew 0 1 3\nnew 1 1 3\nlink 0 0 1\ncopyrefs 1 1 0 0 2\n",
+        read_fails: &[],
+        write_fails: &[],
+        out: b"new 1 young\nnew 2 young\n",
+        err: b"malformed: line 5: NotBuilt\n",
+        status: Status::Malformed,
+    },
+    Row {
+        script: b"type 1 fixed 0 0\nnew 0 1\nplink 7 0 plain 2\ncount 7\nfromobj 0\ntoobj 1 7\nsame 0 1\ninc 7\ndec 7\ndec 7\ncount 7\nnextdead\nolink 8 0 light 0\nplink 9 0 light 0\n",
+        read_fails: &[],
+        write_fails: &[],
+        out: b"new 1 young\ncount 2305843009213693954\nfromobj 7\ntoobj 1\nsame yes\ncount 2305843009213693953\nnextdead none\n",
+        err: b"malformed: line 14: HasPLink\n",
+        status: Status::Malformed,
+    },
+    Row {
+        script: b"type 1 fixed 1 0\nnew 0 1\nput 0 0 9\nget 0 0\nget 0 0",
+        read_fails: &[],
+        write_fails: &[2],
+        out: b"new 1 young\n",
+        err: b"write fault\n",
+        status: Status::WriteFault,
+    },
+    // The file is not begun.
+    Row {
+        script: b"type 1 fixed 1 0\nnew 0 1\nput 0 0 9\nget 0 0\nget 0 0",
+        read_fails: &[1],
+        write_fails: &[],
+        out: b"",
+        err: b"read fault\n",
+        status: Status::ReadFault,
+    },
+    Row {
+        script: b"type 1 fixed 1 0\nnew 0 1\nput 0 0 9\nget 0 0\nget 0 0",
+        read_fails: &[2],
+        write_fails: &[],
+        out: b"",
+        err: b"read fault\n",
+        status: Status::ReadFault,
+    },
+    // The whole lines of a piece are done before the next read, and of a line that breaks off nothing is.
+    Row {
+        script: b"type 1 fixed 1 0\nnew 0 1\nput 0 0 9\nget 0 0\nget 0 0",
+        read_fails: &[3],
+        write_fails: &[],
+        out: b"new 1 young\ngot 9\n",
+        err: b"read fault\n",
+        status: Status::ReadFault,
+    },
+    // A line that is refused ends the run before a read that would fail.
+    Row {
+        script: b"get 0 0\n",
+        read_fails: &[3],
+        write_fails: &[],
+        out: b"",
+        err: b"malformed: line 1: NilRoot\n",
+        status: Status::Malformed,
     },
 ];
 
 #[test]
 fn scripts_end_as_told(rt: HostRuntime) -> Result<(), Fail> {
     for row in &ROWS {
-        let got = replayed(rt.alloc(), row.script, &[], &[])?;
+        let got = answered(
+            rt.alloc(),
+            &["replay", "s"],
+            row.script,
+            row.read_fails,
+            row.write_fails,
+        )?;
         assert_eq!(rt; got.out.as_slice(), row.out);
         assert_eq!(rt; got.err.as_slice(), row.err);
         assert_eq!(rt; got.status, row.status);
@@ -291,24 +463,45 @@ fn scripts_end_as_told(rt: HostRuntime) -> Result<(), Fail> {
     Ok(())
 }
 
-/// A script of three lines that print, the last of them without LF.
-const PRINTING: &[u8] = b"type 1 fixed 1 0\nnew 0 1\nput 0 0 9\nget 0 0\nget 0 0";
-
 #[test]
-fn faults_end_a_run_where_they_come(rt: HostRuntime) -> Result<(), Fail> {
-    let got = replayed(rt.alloc(), PRINTING, &[], &[2])?;
-    assert_eq!(rt; got.status, Status::WriteFault);
-    assert_eq!(rt; got.out.as_slice(), b"new 1 young\n".as_slice());
-    assert_eq!(rt; got.err.as_slice(), b"write fault\n".as_slice());
-
-    let got = replayed(rt.alloc(), PRINTING, &[1], &[])?;
-    assert_eq!(rt; got.status, Status::ReadFault);
+fn other_words_are_told(rt: HostRuntime) -> Result<(), Fail> {
+    let others: [&[&str]; 5] = [
+        &[],
+        &["replay"],
+        &["bench", "7"],
+        &["replay", "s", "s"],
+        &["Replay", "s"],
+    ];
+    for words in others {
+        let got = answered(rt.alloc(), words, b"", &[], &[])?;
+        assert_eq!(rt; got.out.as_slice(), b"".as_slice());
+        assert_eq!(rt;
+            got.err.as_slice(),
+            b"usage: replay FILE, or bench START COUNT\n".as_slice()
+        );
+        assert_eq!(rt; got.status, Status::Usage);
+    }
+    // The name is not there.
+    let got = answered(rt.alloc(), &["replay", "t"], b"used\n", &[], &[])?;
     assert_eq!(rt; got.out.as_slice(), b"".as_slice());
     assert_eq!(rt; got.err.as_slice(), b"read fault\n".as_slice());
-
-    // The whole lines of a piece are done before the next read, and of a line that breaks off nothing is.
-    let got = replayed(rt.alloc(), PRINTING, &[3], &[])?;
     assert_eq!(rt; got.status, Status::ReadFault);
-    assert_eq!(rt; got.out.as_slice(), b"new 1 young\ngot 9\n".as_slice());
+    Ok(())
+}
+
+#[test]
+fn the_limit_is_told(rt: HostRuntime) -> Result<(), Fail> {
+    let mut err = MemSink::new(rt.alloc(), 1000, Vec::new(rt.alloc()))?;
+    let stop = Stop::HeapLimit {
+        line: 7,
+        counted: 60,
+        request: 10,
+        limit: 64,
+    };
+    tell_stop(&mut err, stop);
+    assert_eq!(rt;
+        err.written(),
+        b"heap limit: line 7: 60 + 10 > 64\n".as_slice()
+    );
     Ok(())
 }

@@ -4,7 +4,7 @@ ghost use Rattle.std.specs.Option.{ForSome};
 ghost use Rattle.std.specs.Io.KnownBytes.{Keeps};
 ghost use Rattle.heap_io.specs.Causes.{Rose};
 ghost use Rattle.store_model.specs.ErrorText.{usage_text};
-ghost use Rattle.heap_core.specs.Parts.{closed_heap};
+ghost use Rattle.heap_core.specs.Heap.{closed_heap};
 ghost use Rattle.replay_top.specs.Top.{asked, stop_status, Tells, Replays, IsComplete};
 
 use crate::line::Stop;
@@ -45,7 +45,7 @@ pub fn run<F: Files, K: Sink, E: Sink>(
 
     // What stands when a script was replayed, by the status.
     ensures replays { IfSome (asked (map string_bytes words.now)) (λ name.
-        Replays (F.bytes files.old name) (F.rest files.new) (K.written out.old) (K.written out.new)
+        Replays (F.bytes files.old name) (F.begun files.old) (F.begun files.new) (F.rest files.new) (K.written out.old) (K.written out.new)
         (E.written err.old) (E.written err.new) (E.faults err.old) (E.faults err.new) heap.new result) }
 
     // Other words change nothing, but that the usage is told.
@@ -92,6 +92,7 @@ fn stop_status(stop: Stop) -> Status
 {
     match stop {
         Stop::Malformed { .. } => Status::Malformed,
+        Stop::HeapLimit { .. } => Status::HeapLimit,
         Stop::OutOfMemory => Status::OutOfMemory,
         Stop::ReadFault => Status::ReadFault,
         Stop::WriteFault => Status::WriteFault,

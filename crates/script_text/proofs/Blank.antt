@@ -1,9 +1,9 @@
 -- Lines that are blank, and lines that are not.
 use Rattle.std.proofs.Common.{◌≡◌, ℕ, ◌<◌, false, List, [], ◌∷◌, length, get_or, Ok, refl, arith}
 use Rattle.std.specs.Prelude.{◌==◌}
-use Rattle.store_model.specs.declared.item.Item.TheVariants.{Blank}
-use Rattle.store_model.specs.Numbers.{words_of}
-use Rattle.store_model.specs.Grammar.{item_of, form_of}
+use Rattle.text_model.specs.declared.item.Item.TheVariants.{Blank}
+use Rattle.text_model.specs.Numbers.{words_of}
+use Rattle.text_model.specs.Grammar.{item_of, form_of}
 
 pub item_of-blank : (line : List ℕ) → length line ≡ 0 → item_of line ≡ Ok Blank
 unfolding item_of

@@ -2,16 +2,16 @@
 use Rattle.std.proofs.Common.{◌≡◌, ℕ, ◌^◌, ◌<◌, Bool, true, false, List, [], ◌∷◌, Result, Ok, refl, sym, ap, ◌∙◌, arith}
 use Rattle.std.specs.Prelude.{decimal, ◌||◌, codes}
 use Rattle.std.proofs.lemmas.Bool.{or_parts, ltb-false}
-use Rattle.store_model.specs.declared.command.Command.{Command}
-use Rattle.store_model.specs.declared.command.Command.TheVariants.{NewFixed, NewArray, NewWeak, Put, Get, Link, Load, CopyRefs, MoveRoot, DropRoot, Same, Ident, Hash, Place, Pin, Unpin, Deref, Register, NextFinal, MakeLink, Inc, Dec, Count, FromObj, ToObj, NextDead, Minor, Step, Collect, Used}
-use Rattle.store_model.specs.declared.item.Item.TheVariants.{Command as CommandItem}
-use Rattle.store_model.specs.declared.item.BadLine.{BadLine}
-use Rattle.store_model.specs.Range.{is_above_ids, is_above_items, is_above_counts, is_above}
-use Rattle.store_model.specs.Numbers.{◌>>=◌}
-use Rattle.store_model.specs.CommandGrammar.{in_range, no_numbers, with_one, with_two, with_three, new_form, copy_form, link_form, kind_word, structure_form, slot_form, command_form}
-use Rattle.store_model.specs.Grammar.{as_item, form_of, item_of}
-use Rattle.store_model.specs.ItemText.{joined, decimals, command_words, link_word, light_word}
-use Rattle.store_model.specs.ItemLine.{StoresWord, IsCommandInRange}
+use Rattle.text_model.specs.declared.command.Command.{Command}
+use Rattle.text_model.specs.declared.command.Command.TheVariants.{NewFixed, NewArray, NewWeak, Put, Get, Link, Load, CopyRefs, MoveRoot, DropRoot, Same, Ident, Hash, Place, Pin, Unpin, Deref, Register, NextFinal, MakeLink, Inc, Dec, Count, FromObj, ToObj, NextDead, Minor, Step, Collect, Used}
+use Rattle.text_model.specs.declared.item.Item.TheVariants.{Command as CommandItem}
+use Rattle.text_model.specs.declared.item.BadLine.{BadLine}
+use Rattle.text_model.specs.Range.{is_above_ids, is_above_items, is_above_counts, is_above}
+use Rattle.text_model.specs.Numbers.{◌>>=◌}
+use Rattle.text_model.specs.CommandGrammar.{in_range, no_numbers, with_one, with_two, with_three, new_form, copy_form, link_form, kind_word, structure_form, slot_form, command_form}
+use Rattle.text_model.specs.Grammar.{as_item, form_of, item_of}
+use Rattle.text_model.specs.ItemText.{joined, decimals, command_words, link_word, light_word}
+use Rattle.text_model.specs.ItemLine.{StoresWord, IsCommandInRange}
 use Rattle.script_text.proofs.Separated.{is_word}
 use Rattle.script_text.proofs.Decimals.{is_word-decimal}
 use Rattle.script_text.proofs.ReadWords.{number_word-decimal, one_number-decimals, two_numbers-decimals, three_numbers-decimals, five_numbers-decimals}

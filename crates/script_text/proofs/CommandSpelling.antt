@@ -1,15 +1,15 @@
 -- A command line that was read is the one line of its command.
 use Rattle.std.proofs.Common.{◌≡◌, ℕ, ◌^◌, ◌<◌, Bool, true, false, List, [], ◌∷◌, Result, Ok, refl, sym, ap, ◌∙◌, subst}
 use Rattle.std.specs.Prelude.{decimal, bytes_eq, if◌then◌else◌, codes}
-use Rattle.store_model.specs.declared.command.Command.{Command}
-use Rattle.store_model.specs.declared.command.Command.TheVariants.{NewFixed, NewArray, NewWeak, Put, Get, Link, Load, CopyRefs, MoveRoot, DropRoot, Same, Ident, Hash, Place, Pin, Unpin, Deref, Register, NextFinal, MakeLink, Inc, Dec, Count, FromObj, ToObj, NextDead, Minor, Step, Collect, Used}
-use Rattle.store_model.specs.declared.item.BadLine.{BadLine}
-use Rattle.store_model.specs.declared.item.BadLine.TheVariants.{Range}
-use Rattle.store_model.specs.Range.{is_above}
-use Rattle.store_model.specs.Numbers.{◌>>=◌, number_word, no_word, one_number, two_numbers, three_numbers, five_numbers}
-use Rattle.store_model.specs.CommandGrammar.{in_range, no_numbers, with_one, with_two, with_three, new_tail, new_form, copy_form, link_form, kind_word, structure_form, slot_form, command_form}
-use Rattle.store_model.specs.ItemText.{decimals, command_words, link_word, light_word}
-use Rattle.store_model.specs.ItemLine.{StoresWord, IsCommandInRange}
+use Rattle.text_model.specs.declared.command.Command.{Command}
+use Rattle.text_model.specs.declared.command.Command.TheVariants.{NewFixed, NewArray, NewWeak, Put, Get, Link, Load, CopyRefs, MoveRoot, DropRoot, Same, Ident, Hash, Place, Pin, Unpin, Deref, Register, NextFinal, MakeLink, Inc, Dec, Count, FromObj, ToObj, NextDead, Minor, Step, Collect, Used}
+use Rattle.text_model.specs.declared.item.BadLine.{BadLine}
+use Rattle.text_model.specs.declared.item.BadLine.TheVariants.{Range}
+use Rattle.text_model.specs.Range.{is_above}
+use Rattle.text_model.specs.Numbers.{◌>>=◌, number_word, no_word, one_number, two_numbers, three_numbers, five_numbers}
+use Rattle.text_model.specs.CommandGrammar.{in_range, no_numbers, with_one, with_two, with_three, new_tail, new_form, copy_form, link_form, kind_word, structure_form, slot_form, command_form}
+use Rattle.text_model.specs.ItemText.{decimals, command_words, link_word, light_word}
+use Rattle.text_model.specs.ItemLine.{StoresWord, IsCommandInRange}
 use Rattle.script_text.proofs.ReadWords.{both_gave, by_keyword, ok_unless, number_word-is, no_word-is, one_number-is, two_numbers-is, three_numbers-is, five_numbers-is}
 
 -- the words are those of the command's line

@@ -4,7 +4,7 @@ use Rattle.std.specs.Prelude.{decimal, nat_lt, nat_le, ◌&&◌, ◌==◌, not, 
 use Rattle.std.proofs.lemmas.Bool.{cases_lt, and_parts, and_from, and_left, and_right, ltb-true, leb-true, eqb-false, ne_eqb, le-ltb, not_from_false}
 use Rattle.std.proofs.lemmas.Str.Parse.{IsNumeralModel, numerals_by_weight}
 use Rattle.std.proofs.lemmas.Fmt.{digits_decimal, digits_value-decimal, decimal-digits_value, decimal_nonempty, first_decimal, decimal_digit}
-use Rattle.store_model.specs.Numbers.{is_digit, all_digits, value_of, digits_number, number_of}
+use Rattle.text_model.specs.Numbers.{is_digit, all_digits, value_of, digits_number, number_of}
 use Rattle.script_text.proofs.Numerals.{digits_number-good, number_of-digits}
 use Rattle.script_text.proofs.Separated.{is_word}
 

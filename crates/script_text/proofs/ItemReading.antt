@@ -5,13 +5,13 @@ use Rattle.std.proofs.lemmas.Bool.{or_parts, eqb-true, agree_below_at}
 use Rattle.type_table.specs.declared.info.Shape.{Shape}
 use Rattle.type_table.specs.declared.info.Shape.TheVariants.{Fixed, IntArray, RefArray, Weak}
 use Rattle.type_table.specs.declared.info.TypeInfo.{TypeInfo}
-use Rattle.store_model.specs.declared.item.Item.{Item}
-use Rattle.store_model.specs.declared.item.Item.TheVariants.{Blank, Setting, TypeDef, Command as CommandItem}
-use Rattle.store_model.specs.declared.item.BadLine.{BadLine}
-use Rattle.store_model.specs.Range.{is_above_ids}
-use Rattle.store_model.specs.Grammar.{setting_names, setting_of, setting_form, shape_words, end_of_type, is_above_shape, type_form, form_of, item_of}
-use Rattle.store_model.specs.ItemText.{decimals, shape_text, destructor_text, item_text}
-use Rattle.store_model.specs.ItemLine.{IsTypeInRange, HasLine, is_blank, IsLineOf}
+use Rattle.text_model.specs.declared.item.Item.{Item}
+use Rattle.text_model.specs.declared.item.Item.TheVariants.{Blank, Setting, TypeDef, Command as CommandItem}
+use Rattle.text_model.specs.declared.item.BadLine.{BadLine}
+use Rattle.text_model.specs.Range.{is_above_ids}
+use Rattle.text_model.specs.Grammar.{setting_names, setting_of, setting_form, shape_words, end_of_type, is_above_shape, type_form, form_of, item_of}
+use Rattle.text_model.specs.ItemText.{decimals, shape_text, destructor_text, item_text}
+use Rattle.text_model.specs.ItemLine.{IsTypeInRange, HasLine, is_blank, IsLineOf}
 use Rattle.script_text.proofs.Separated.{is_word}
 use Rattle.script_text.proofs.Decimals.{is_word-decimal}
 use Rattle.script_text.proofs.ReadWords.{number_word-decimal, one_number-decimals}

@@ -6,15 +6,15 @@ use Rattle.std.proofs.lemmas.Slice.Eq.{bytes_eq-Decides}
 use Rattle.type_table.specs.declared.info.Shape.{Shape}
 use Rattle.type_table.specs.declared.info.Shape.TheVariants.{Fixed, IntArray, RefArray, Weak}
 use Rattle.type_table.specs.declared.info.TypeInfo.{TypeInfo}
-use Rattle.store_model.specs.declared.item.Item.{Item}
-use Rattle.store_model.specs.declared.item.Item.TheVariants.{Blank, Setting, TypeDef, Command as CommandItem}
-use Rattle.store_model.specs.declared.item.BadLine.TheVariants.{Range}
-use Rattle.store_model.specs.Range.{is_above_ids}
-use Rattle.store_model.specs.Numbers.{words_of, number_word, no_word, one_number}
-use Rattle.store_model.specs.CommandGrammar.{command_form}
-use Rattle.store_model.specs.Grammar.{setting_names, place_of, setting_of, setting_with, setting_form, fixed_shape, shape_words, destructor_word, end_of_type, is_above_shape, type_form, as_item, form_of, item_of}
-use Rattle.store_model.specs.ItemText.{joined, shape_text, destructor_text, item_words, item_text}
-use Rattle.store_model.specs.ItemLine.{HasLine, IsLineOf}
+use Rattle.text_model.specs.declared.item.Item.{Item}
+use Rattle.text_model.specs.declared.item.Item.TheVariants.{Blank, Setting, TypeDef, Command as CommandItem}
+use Rattle.text_model.specs.declared.item.BadLine.TheVariants.{Range}
+use Rattle.text_model.specs.Range.{is_above_ids}
+use Rattle.text_model.specs.Numbers.{words_of, number_word, no_word, one_number}
+use Rattle.text_model.specs.CommandGrammar.{command_form}
+use Rattle.text_model.specs.Grammar.{setting_names, place_of, setting_of, setting_with, setting_form, fixed_shape, shape_words, destructor_word, end_of_type, is_above_shape, type_form, as_item, form_of, item_of}
+use Rattle.text_model.specs.ItemText.{joined, shape_text, destructor_text, item_words, item_text}
+use Rattle.text_model.specs.ItemLine.{HasLine, IsLineOf}
 use Rattle.script_text.proofs.ReadWords.{both_gave, by_keyword, ok_unless, number_word-is, no_word-is, one_number-is}
 use Rattle.script_text.proofs.CommandSpelling.{command_form-is}
 use Rattle.script_text.proofs.Joined.{joined-words_of}

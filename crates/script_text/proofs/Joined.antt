@@ -2,10 +2,10 @@
 use Rattle.std.proofs.Common.{◌≡◌, ℕ, Bool, true, false, List, [], ◌∷◌, refl, sym, ap, ◌∙◌, inl, inr}
 use Rattle.std.specs.Prelude.{◌&&◌, ◌==◌, not}
 use Rattle.std.proofs.lemmas.Bool.{and_parts, and_from, not-true, eqb-true, cases_Bool}
-use Rattle.store_model.specs.Lines.{in_front}
-use Rattle.store_model.specs.Numbers.{words_of}
-use Rattle.store_model.specs.Grammar.{item_of, form_of}
-use Rattle.store_model.specs.ItemText.{joined}
+use Rattle.text_model.specs.Lines.{in_front}
+use Rattle.text_model.specs.Numbers.{words_of}
+use Rattle.text_model.specs.Grammar.{item_of, form_of}
+use Rattle.text_model.specs.ItemText.{joined}
 use Rattle.script_text.proofs.Separated.{is_word, words_of-word, words_of-last, words_of-other, words_of-some}
 
 abbrev pub are_words : List (List ℕ) → Bool

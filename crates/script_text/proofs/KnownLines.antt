@@ -4,7 +4,7 @@ use Rattle.std.specs.Prelude.{◌==◌}
 use Rattle.std.specs.Io.KnownBytes.{Consumes, IsAtEnd}
 use Rattle.std.proofs.KnownBytes.{Consumes-trans}
 use Rattle.std.proofs.lemmas.Bool.{and_parts, not-true, and_from, cases_Bool}
-use Rattle.store_model.specs.Lines.{lines_of, in_front}
+use Rattle.text_model.specs.Lines.{lines_of, in_front}
 use Rattle.script_text.specs.Reader.{is_one_line, Begins, Longer}
 
 -- A front was taken, and then nothing.

@@ -4,7 +4,7 @@ use Rattle.std.specs.Prelude.{nat_lt, ◌&&◌, ◌==◌}
 use Rattle.std.proofs.Math.Nat.{pow-suc, mul-le-mul_left}
 use Rattle.std.proofs.Math.ListN.{drop_of_length-le}
 use Rattle.std.proofs.lemmas.Bool.{and_right, le-ltb, lt-ltb}
-use Rattle.store_model.specs.Numbers.{is_digit, all_digits, value_of, digits_number, number_of}
+use Rattle.text_model.specs.Numbers.{is_digit, all_digits, value_of, digits_number, number_of}
 
 regroup : (v d p r : ℕ) → (v * 10 + d) * p + r ≡ v * (p * 10) + (d * p + r)
 regroup v d p r = grind arith

@@ -3,9 +3,9 @@ use Rattle.std.proofs.Common.{◌≡◌, ℕ, ◌^◌, ◌<◌, Bool, true, fals
 use Rattle.std.specs.Prelude.{decimal, bytes_eq, if◌then◌else◌}
 use Rattle.std.proofs.lemmas.Bool.{cases_Bool}
 use Rattle.std.proofs.lemmas.Slice.Eq.{bytes_eq-Decides}
-use Rattle.store_model.specs.declared.item.BadLine.{BadLine}
-use Rattle.store_model.specs.Numbers.{number_of, ◌>>=◌, number_or_syntax, number_word, no_word, one_number, two_numbers, three_numbers, five_numbers}
-use Rattle.store_model.specs.ItemText.{decimals}
+use Rattle.text_model.specs.declared.item.BadLine.{BadLine}
+use Rattle.text_model.specs.Numbers.{number_of, ◌>>=◌, number_or_syntax, number_word, no_word, one_number, two_numbers, three_numbers, five_numbers}
+use Rattle.text_model.specs.ItemText.{decimals}
 use Rattle.script_text.proofs.Decimals.{number_of-decimal, number_of-is}
 
 -- Where two readings, one after the other, gave something, P follows if it follows from what each gave.

@@ -2,11 +2,11 @@
 use Rattle.std.proofs.Common.{◌≡◌, ℕ, ◌+◌, ◌<◌, suc, Bool, true, false, List, [], ◌∷◌, ◌++◌, length, take, drop, get_or, Err, refl, sym, ap, ◌∙◌, inl, inr, take-append-drop, drop-cons, add-one}
 use Rattle.std.specs.Prelude.{not, ◌&&◌, ◌==◌}
 use Rattle.std.proofs.lemmas.Bool.{and_parts, not-true, and_from, cases_Bool}
-use Rattle.store_model.specs.declared.item.BadLine.TheVariants.{Syntax}
-use Rattle.store_model.specs.Lines.{in_front}
-use Rattle.store_model.specs.declared.command.Command.TheVariants.{NewArray}
-use Rattle.store_model.specs.Numbers.{words_of, no_word, one_number, ◌>>=◌}
-use Rattle.store_model.specs.CommandGrammar.{in_range, new_tail}
+use Rattle.text_model.specs.declared.item.BadLine.TheVariants.{Syntax}
+use Rattle.text_model.specs.Lines.{in_front}
+use Rattle.text_model.specs.declared.command.Command.TheVariants.{NewArray}
+use Rattle.text_model.specs.Numbers.{words_of, no_word, one_number, ◌>>=◌}
+use Rattle.text_model.specs.CommandGrammar.{in_range, new_tail}
 
 -- no byte is a space
 abbrev pub is_word : List ℕ → Bool

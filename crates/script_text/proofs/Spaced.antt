@@ -2,7 +2,7 @@
 use Rattle.std.proofs.Common.{◌≡◌, ℕ, ◌+◌, ◌<◌, List, [], ◌∷◌, ◌++◌, length, take, get_or, sym, ap, ◌∙◌, append_assoc, append-nil}
 use Rattle.std.specs.Prelude.{decimal, Result, Ok, Err, OnOk, OnErr, is_ok, if◌then◌else◌}
 use Rattle.std.proofs.lemmas.List.{take_more}
-use Rattle.store_model.specs.ItemText.{joined, decimals}
+use Rattle.text_model.specs.ItemText.{joined, decimals}
 use Rattle.script_text.specs.Printing.{spaced, Extends}
 
 pub joined-spaced : (first : List ℕ) (words : List (List ℕ)) → joined (first ∷ words) ≡ first ++ spaced words

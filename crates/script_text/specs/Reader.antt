@@ -1,7 +1,7 @@
 -- What a reader of lines has handed out, and what is still ahead of it.
 use Rattle.std.specs.Prelude.{◌≡◌, ℕ, ◌+◌, ◌≤◌, Bool, true, ◌&&◌, not, ◌==◌, if◌then◌else◌, List, [], ◌∷◌, ◌++◌, length, Option, Some, None, ⊤, IsTrue}
 use Rattle.std.specs.Io.KnownBytes.{prepend_known, Consumes, IsAtEnd}
-use Rattle.store_model.specs.Lines.{lines_of}
+use Rattle.text_model.specs.Lines.{lines_of}
 
 -- The greatest number of lines of a script.
 abbrev pub line_limit : ℕ

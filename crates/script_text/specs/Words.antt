@@ -1,12 +1,12 @@
 -- The words of a line that are still to be read, and what a function that reads some of them gives.
 use Rattle.std.specs.Prelude.{◌≡◌, ℕ, Bool, if◌then◌else◌, List, [], Option, Some, None, Result, Ok, Err, option_copied}
 use Rattle.type_table.specs.declared.info.Shape.{Shape}
-use Rattle.store_model.specs.declared.item.Item.{Item}
-use Rattle.store_model.specs.declared.item.BadLine.{BadLine}
-use Rattle.store_model.specs.declared.item.BadLine.TheVariants.{Range}
-use Rattle.store_model.specs.Range.{is_above_ids}
-use Rattle.store_model.specs.Numbers.{words_of, ◌>>=◌, one_number, two_numbers}
-use Rattle.store_model.specs.Grammar.{end_of_type, type_in_range}
+use Rattle.text_model.specs.declared.item.Item.{Item}
+use Rattle.text_model.specs.declared.item.BadLine.{BadLine}
+use Rattle.text_model.specs.declared.item.BadLine.TheVariants.{Range}
+use Rattle.text_model.specs.Range.{is_above_ids}
+use Rattle.text_model.specs.Numbers.{words_of, ◌>>=◌, one_number, two_numbers}
+use Rattle.text_model.specs.Grammar.{end_of_type, type_in_range}
 use Rattle.script_text.specs.declared.words.Words.{Words}
 
 -- the words of the part of a line that is left, which may be none

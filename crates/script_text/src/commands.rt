@@ -1,17 +1,17 @@
 //! The one line of each command, as it is written.
 
 ghost use Rattle.std.specs.Prelude.{◌≡◌, ◌++◌, ◌∷◌, [], false, Ok, OnOk, OnErr};
-ghost use Rattle.store_model.specs.declared.item.Item.TheVariants.{Command as CommandItem};
-ghost use Rattle.store_model.specs.Range.{is_above};
-ghost use Rattle.store_model.specs.Grammar.{item_of};
-ghost use Rattle.store_model.specs.ItemText.{item_text};
+ghost use Rattle.text_model.specs.declared.item.Item.TheVariants.{Command as CommandItem};
+ghost use Rattle.text_model.specs.Range.{is_above};
+ghost use Rattle.text_model.specs.Grammar.{item_of};
+ghost use Rattle.text_model.specs.ItemText.{item_text};
 ghost use Rattle.script_text.specs.Printing.{Extends};
 
 use crate::objects::print_object_command;
 use std::alloc::AllocError;
-use store_model::Command;
+use text_model::Command;
 
-/// Appends the line of a command, with LF. Where memory is wanting, what was in the buffer stays at its front, and
+/// Appends the line of a command, with LF. Where memory runs out, what was in the buffer stays at its front, and
 /// behind it may stand a part of the line. That line is read as this command. (This project's own.)
 pub fn print_command(command: &Command, out: &mut Vec<u8>) -> Result<(), AllocError>
     requires { is_above command.now ≡ false }

@@ -17,7 +17,7 @@ mod words;
 pub use commands::print_command;
 pub use parse::parse_line;
 pub use reader::{LineReader, ReadEnd};
-pub use store_model::{BadLine, Command, Item};
+pub use text_model::{BadLine, Command, Item};
 
 #[cfg(test)]
 mod tests;

@@ -1,7 +1,7 @@
 //! Whole numbers of at most 64 bits, in digits.
 
 ghost use Rattle.std.specs.Prelude.{◌≡◌};
-ghost use Rattle.store_model.specs.Numbers.{number_of, digits_number};
+ghost use Rattle.text_model.specs.Numbers.{number_of, digits_number};
 
 /// The number that a word writes: `0`, or digits of which the first is not `0`.
 pub fn parse_number(word: &[u8]) -> Option<u64>

@@ -1,10 +1,10 @@
 //! The lines of the commands on objects and their items.
 
 ghost use Rattle.std.specs.Prelude.{◌≡◌, ◌++◌, ◌∷◌, [], OnOk, OnErr};
-ghost use Rattle.store_model.specs.declared.command.Command.TheVariants.{NewWeak, Put, Get, Link, Load};
-ghost use Rattle.store_model.specs.CommandGrammar.{command_form, new_form, copy_form, with_two, with_three};
-ghost use Rattle.store_model.specs.ItemText.{joined, command_words};
-ghost use Rattle.store_model.specs.ItemLine.{StoresWord};
+ghost use Rattle.text_model.specs.declared.command.Command.TheVariants.{NewWeak, Put, Get, Link, Load};
+ghost use Rattle.text_model.specs.CommandGrammar.{command_form, new_form, copy_form, with_two, with_three};
+ghost use Rattle.text_model.specs.ItemText.{joined, command_words};
+ghost use Rattle.text_model.specs.ItemLine.{StoresWord};
 ghost use Rattle.script_text.specs.Printing.{Extends};
 ghost use Rattle.script_text.specs.Words.{words_in};
 
@@ -13,10 +13,10 @@ use crate::ranges::{item_number, slot_number, type_number};
 use crate::slots::{parse_slot_command, print_slot_command};
 use crate::words::{Words, five_numbers, one_number, take_number, three_numbers, two_numbers};
 use std::alloc::AllocError;
-use store_model::{BadLine, Command};
+use text_model::{BadLine, Command};
 
 /// The command of a line, by its first word and the words behind it.
-#[tactic(auto, unfolding(store_model::specs::CommandGrammar::command_form))]
+#[tactic(auto, unfolding(text_model::specs::CommandGrammar::command_form))]
 pub fn parse_command(word: &[u8], words: Words<'_>) -> Result<Command, BadLine>
     ensures { result ≡ command_form word.now (words_in words.entry) }
 {
@@ -40,7 +40,7 @@ pub fn parse_command(word: &[u8], words: Words<'_>) -> Result<Command, BadLine>
 }
 
 /// `new R T` and `new R T L`, behind the first word.
-#[tactic(auto, using(crate::proofs::Separated::new_tail_of_text), unfolding(store_model::specs::Range::is_above, store_model::specs::CommandGrammar::new_form))]
+#[tactic(auto, using(crate::proofs::Separated::new_tail_of_text), unfolding(text_model::specs::Range::is_above, text_model::specs::CommandGrammar::new_form))]
 fn parse_new(words: Words<'_>) -> Result<Command, BadLine>
     ensures { result ≡ new_form (words_in words.entry) }
 {
@@ -59,7 +59,7 @@ fn parse_new(words: Words<'_>) -> Result<Command, BadLine>
 }
 
 /// `weak R T S`
-#[tactic(auto, unfolding(store_model::specs::Range::is_above))]
+#[tactic(auto, unfolding(text_model::specs::Range::is_above))]
 fn parse_weak(words: Words<'_>) -> Result<Command, BadLine>
     ensures { result ≡ with_three NewWeak (words_in words.entry) }
 {
@@ -75,7 +75,7 @@ fn parse_weak(words: Words<'_>) -> Result<Command, BadLine>
 }
 
 /// `put R I N`
-#[tactic(auto, unfolding(store_model::specs::Range::is_above))]
+#[tactic(auto, unfolding(text_model::specs::Range::is_above))]
 fn parse_put(words: Words<'_>) -> Result<Command, BadLine>
     ensures { result ≡ with_three Put (words_in words.entry) }
 {
@@ -86,7 +86,7 @@ fn parse_put(words: Words<'_>) -> Result<Command, BadLine>
 }
 
 /// `get R I`
-#[tactic(auto, unfolding(store_model::specs::Range::is_above))]
+#[tactic(auto, unfolding(text_model::specs::Range::is_above))]
 fn parse_get(words: Words<'_>) -> Result<Command, BadLine>
     ensures { result ≡ with_two Get (words_in words.entry) }
 {
@@ -97,7 +97,7 @@ fn parse_get(words: Words<'_>) -> Result<Command, BadLine>
 }
 
 /// `link R I S`
-#[tactic(auto, unfolding(store_model::specs::Range::is_above))]
+#[tactic(auto, unfolding(text_model::specs::Range::is_above))]
 fn parse_link(words: Words<'_>) -> Result<Command, BadLine>
     ensures { result ≡ with_three Link (words_in words.entry) }
 {
@@ -109,7 +109,7 @@ fn parse_link(words: Words<'_>) -> Result<Command, BadLine>
 }
 
 /// `load D R I`
-#[tactic(auto, unfolding(store_model::specs::Range::is_above))]
+#[tactic(auto, unfolding(text_model::specs::Range::is_above))]
 fn parse_load(words: Words<'_>) -> Result<Command, BadLine>
     ensures { result ≡ with_three Load (words_in words.entry) }
 {
@@ -121,7 +121,7 @@ fn parse_load(words: Words<'_>) -> Result<Command, BadLine>
 }
 
 /// `copyrefs R I S J M`
-#[tactic(auto, unfolding(store_model::specs::Range::is_above, store_model::specs::CommandGrammar::copy_form))]
+#[tactic(auto, unfolding(text_model::specs::Range::is_above, text_model::specs::CommandGrammar::copy_form))]
 fn parse_copy(words: Words<'_>) -> Result<Command, BadLine>
     ensures { result ≡ copy_form (words_in words.entry) }
 {
@@ -141,7 +141,7 @@ fn parse_copy(words: Words<'_>) -> Result<Command, BadLine>
 }
 
 /// Appends the line of a command, with LF.
-#[tactic(auto, unfolding(store_model::specs::ItemText::command_words))]
+#[tactic(auto, unfolding(text_model::specs::ItemText::command_words))]
 pub fn print_object_command(command: &Command, out: &mut Vec<u8>) -> Result<(), AllocError>
     ensures ok { OnOk result (out.new.items ≡ out.old.items ++ (joined (command_words command.now) ++ 10 ∷ [])) }
     ensures stored { StoresWord command.now }

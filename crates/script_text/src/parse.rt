@@ -1,19 +1,20 @@
 //! What a line of a script says.
 
 ghost use Rattle.std.specs.Prelude.{◌≡◌, ◌↔◌, Ok, false};
-ghost use Rattle.store_model.specs.Numbers.{words_of};
-ghost use Rattle.store_model.specs.Grammar.{item_of, form_of, setting_of, setting_form, type_form, fixed_shape, destructor_word, end_of_type, is_above_shape};
-ghost use Rattle.store_model.specs.ItemLine.{IsLineOf};
+ghost use Rattle.text_model.specs.Numbers.{words_of};
+ghost use Rattle.text_model.specs.Grammar.{item_of, form_of, setting_of, setting_form, type_form, fixed_shape, destructor_word, end_of_type, is_above_shape};
+ghost use Rattle.text_model.specs.ItemLine.{IsLineOf};
 ghost use Rattle.script_text.specs.Words.{words_in, type_of};
 
 use crate::objects::parse_command;
 use crate::ranges::type_number;
 use crate::words::{Words, one_number, split_word, take_end, take_number};
-use store_model::{BadLine, Item, Shape, TypeInfo};
+use text_model::{BadLine, Item};
+use type_table::{Shape, TypeInfo};
 
 /// What a line says, of which its LF is no part. Its words stand with one space between two; a number is written in
 /// decimal digits with no zero in front. `Range` is answered where the line has a form and a number is above the greatest
-/// of its place, `Syntax` where it has no form, as with a number of more than 64 bits. It takes no memory. (The grammar is
+/// of its place, `Syntax` where it has no form, as with a number of more than 64 bits. It does not allocate. (The grammar is
 /// this project's own.)
 pub fn parse_line(line: &[u8]) -> Result<Item, BadLine>
     ensures reading { result ≡ item_of line.now }
@@ -26,7 +27,7 @@ pub fn parse_line(line: &[u8]) -> Result<Item, BadLine>
 }
 
 /// What the words of a line that is not blank say.
-#[tactic(auto, unfolding(store_model::specs::Grammar::form_of))]
+#[tactic(auto, unfolding(text_model::specs::Grammar::form_of))]
 fn parse_form(line: &[u8]) -> Result<Item, BadLine>
     ensures { result ≡ form_of (words_of line.now) }
 {
@@ -41,7 +42,7 @@ fn parse_form(line: &[u8]) -> Result<Item, BadLine>
 }
 
 /// `set NAME N`, behind the first word.
-#[tactic(auto, unfolding(store_model::specs::Grammar::setting_form))]
+#[tactic(auto, unfolding(text_model::specs::Grammar::setting_form))]
 fn parse_setting(words: Words<'_>) -> Result<Item, BadLine>
     ensures { result ≡ setting_form (words_in words.entry) }
 {
@@ -57,7 +58,7 @@ fn parse_setting(words: Words<'_>) -> Result<Item, BadLine>
 }
 
 /// The place of the setting that a word names, counted from 0.
-#[tactic(auto, unfolding(store_model::specs::Grammar::setting_of))]
+#[tactic(auto, unfolding(text_model::specs::Grammar::setting_of))]
 fn setting_place(word: &[u8]) -> Option<u8>
     ensures { result ≡ setting_of word.now }
 {
@@ -93,7 +94,7 @@ fn setting_place(word: &[u8]) -> Option<u8>
 }
 
 /// `type T ..`, behind the first word.
-#[tactic(auto, unfolding(store_model::specs::Grammar::type_form, store_model::specs::Grammar::shape_words))]
+#[tactic(auto, unfolding(text_model::specs::Grammar::type_form, text_model::specs::Grammar::shape_words))]
 fn parse_type(words: Words<'_>) -> Result<Item, BadLine>
     ensures { result ≡ type_form (words_in words.entry) }
 {

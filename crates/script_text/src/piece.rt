@@ -33,7 +33,7 @@ impl Model for Piece {
 }
 
 impl Piece {
-    /// A piece with no byte. All its memory is taken here.
+    /// A piece with no byte. All its memory is allocated here.
     pub(crate) fn new(alloc: Global) -> Result<Piece, AllocError>
         ensures { IfOk result (λ piece. piece ≡ []) }
     {

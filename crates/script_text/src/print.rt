@@ -1,8 +1,8 @@
-//! Lines that are written as words with one space between two. Where memory is wanting, what was in the buffer stays at
+//! Lines that are written as words with one space between two. Where memory runs out, what was in the buffer stays at
 //! its front, and behind it may stand a part of the line.
 
 ghost use Rattle.std.specs.Prelude.{◌≡◌, ◌<◌, ◌^◌, ◌++◌, ◌∷◌, [], All, OnOk, OnErr};
-ghost use Rattle.store_model.specs.ItemText.{joined, decimals};
+ghost use Rattle.text_model.specs.ItemText.{joined, decimals};
 ghost use Rattle.script_text.specs.Printing.{spaced, Extends};
 
 use itoa::Buffer;

@@ -1,11 +1,11 @@
 //! The greatest numbers of each place in a line. (This project's own.)
 
 ghost use Rattle.std.specs.Prelude.{◌≡◌};
-ghost use Rattle.store_model.specs.Range.{is_above_ids, is_above_items, is_above_counts};
+ghost use Rattle.text_model.specs.Range.{is_above_ids, is_above_items, is_above_counts};
 ghost use Rattle.script_text.specs.Words.{words_in, unless_above, one_slot, two_slots};
 
 use crate::words::{Words, one_number, two_numbers};
-use store_model::BadLine;
+use text_model::BadLine;
 
 const GREATEST_ITEM: u64 = 16_777_216;
 

@@ -74,7 +74,7 @@ impl Model for LineReader {
 }
 
 impl LineReader {
-    /// A reader at the input's beginning. All its memory is taken here.
+    /// A reader at the input's beginning. All its memory is allocated here.
     pub fn new(alloc: Global) -> Result<LineReader, AllocError>
         ensures { IfOk result (λ reader. reader ≡ record { held = []; count = 0; ended = false }) }
     {

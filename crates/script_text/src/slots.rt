@@ -1,8 +1,8 @@
 //! The lines of the commands on root slots, and on what becomes of an object.
 
 ghost use Rattle.std.specs.Prelude.{◌≡◌, ◌++◌, ◌∷◌, [], OnOk, OnErr, false};
-ghost use Rattle.store_model.specs.CommandGrammar.{slot_form};
-ghost use Rattle.store_model.specs.ItemText.{joined, command_words};
+ghost use Rattle.text_model.specs.CommandGrammar.{slot_form};
+ghost use Rattle.text_model.specs.ItemText.{joined, command_words};
 ghost use Rattle.script_text.specs.Printing.{Extends};
 ghost use Rattle.script_text.specs.Groups.{is_object_command};
 ghost use Rattle.script_text.specs.Words.{words_in};
@@ -12,10 +12,10 @@ use crate::ranges::{one_slot, slot_and_queue, two_slots};
 use crate::structures::{parse_structure_command, print_structure_command};
 use crate::words::Words;
 use std::alloc::AllocError;
-use store_model::{BadLine, Command};
+use text_model::{BadLine, Command};
 
 /// The command of a line, by its first word and the words behind it.
-#[tactic(auto, unfolding(store_model::specs::Range::is_above, store_model::specs::CommandGrammar::slot_form))]
+#[tactic(auto, unfolding(text_model::specs::Range::is_above, text_model::specs::CommandGrammar::slot_form))]
 pub fn parse_slot_command(word: &[u8], words: Words<'_>) -> Result<Command, BadLine>
     ensures { result ≡ slot_form word.now (words_in words.entry) }
 {
@@ -47,7 +47,7 @@ pub fn parse_slot_command(word: &[u8], words: Words<'_>) -> Result<Command, BadL
 }
 
 /// Appends the line of a command that is not on objects and their items, with LF.
-#[tactic(auto, unfolding(store_model::specs::ItemText::command_words))]
+#[tactic(auto, unfolding(text_model::specs::ItemText::command_words))]
 pub fn print_slot_command(command: &Command, out: &mut Vec<u8>) -> Result<(), AllocError>
     requires { is_object_command command.now ≡ false }
     ensures ok { OnOk result (out.new.items ≡ out.old.items ++ (joined (command_words command.now) ++ 10 ∷ [])) }

@@ -1,9 +1,9 @@
 //! The lines of the commands on C structures and on the collector.
 
 ghost use Rattle.std.specs.Prelude.{◌≡◌, ◌++◌, ◌∷◌, [], OnOk, OnErr, true, false, decimal};
-ghost use Rattle.store_model.specs.Range.{is_above};
-ghost use Rattle.store_model.specs.CommandGrammar.{structure_form, link_form, no_numbers};
-ghost use Rattle.store_model.specs.ItemText.{joined, command_words, link_word, light_word};
+ghost use Rattle.text_model.specs.Range.{is_above};
+ghost use Rattle.text_model.specs.CommandGrammar.{structure_form, link_form, no_numbers};
+ghost use Rattle.text_model.specs.ItemText.{joined, command_words, link_word, light_word};
 ghost use Rattle.script_text.specs.Printing.{Extends};
 ghost use Rattle.script_text.specs.Groups.{is_structure_command};
 ghost use Rattle.script_text.specs.Words.{words_in};
@@ -12,10 +12,10 @@ use crate::print::{print_line, print_numbers};
 use crate::ranges::{one_slot, own_number, slot_number, two_slots};
 use crate::words::{Words, one_number, take_end, take_kind, take_number};
 use std::alloc::AllocError;
-use store_model::{BadLine, Command};
+use text_model::{BadLine, Command};
 
 /// The command of a line, by its first word and the words behind it.
-#[tactic(auto, unfolding(store_model::specs::Range::is_above, store_model::specs::CommandGrammar::structure_form))]
+#[tactic(auto, unfolding(text_model::specs::Range::is_above, text_model::specs::CommandGrammar::structure_form))]
 pub fn parse_structure_command(word: &[u8], words: Words<'_>) -> Result<Command, BadLine>
     ensures { result ≡ structure_form word.now (words_in words.entry) }
 {
@@ -49,7 +49,7 @@ pub fn parse_structure_command(word: &[u8], words: Words<'_>) -> Result<Command,
 }
 
 /// `plink C R K N` and `olink C R K N`, behind the first word.
-#[tactic(auto, unfolding(store_model::specs::Range::is_above, store_model::specs::CommandGrammar::link_form))]
+#[tactic(auto, unfolding(text_model::specs::Range::is_above, text_model::specs::CommandGrammar::link_form))]
 fn parse_link(p: bool, words: Words<'_>) -> Result<Command, BadLine>
     ensures { result ≡ link_form p (words_in words.entry) }
 {
@@ -79,7 +79,7 @@ fn parse_bare(command: Command, words: Words<'_>) -> Result<Command, BadLine>
 }
 
 /// Appends the line of a command on C structures or on the collector, with LF.
-#[tactic(auto, unfolding(store_model::specs::ItemText::command_words))]
+#[tactic(auto, unfolding(text_model::specs::ItemText::command_words))]
 pub fn print_structure_command(command: &Command, out: &mut Vec<u8>) -> Result<(), AllocError>
     requires { is_structure_command command.now ≡ true }
     ensures ok { OnOk result (out.new.items ≡ out.old.items ++ (joined (command_words command.now) ++ 10 ∷ [])) }

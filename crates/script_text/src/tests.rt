@@ -1,7 +1,7 @@
 //! Every form of a line, and lines that have none.
 
 use crate::{BadLine, Command, Item, parse_line, print_command};
-use store_model::{Shape, TypeInfo};
+use type_table::{Shape, TypeInfo};
 
 const COMMANDS: [(&str, Command); 32] = [
     (

@@ -2,12 +2,12 @@
 //! line behind the last space that was met.
 
 ghost use Rattle.std.specs.Prelude.{◌≡◌, ◌∷◌, codes, ◌^◌};
-ghost use Rattle.store_model.specs.Numbers.{words_of, number_word, no_word, one_number, two_numbers, three_numbers, five_numbers};
-ghost use Rattle.store_model.specs.CommandGrammar.{kind_word};
+ghost use Rattle.text_model.specs.Numbers.{words_of, number_word, no_word, one_number, two_numbers, three_numbers, five_numbers};
+ghost use Rattle.text_model.specs.CommandGrammar.{kind_word};
 ghost use Rattle.script_text.specs.Words.{words_in, Gives};
 
 use crate::numbers::parse_number;
-use store_model::BadLine;
+use text_model::BadLine;
 
 /// The words that are still to be read.
 #[derive(Clone, Copy, Debug)]

@@ -1,48 +1,44 @@
 -- What an item that is not refused does where a session and its heap stand.
-use Rattle.std.proofs.Common.{◌≡◌, ℕ, List, [], ◌∷◌, ◌++◌, Option, Some, None, false, refl, sym, ap, ◌∙◌, subst, append-nil, option_map}
-use Rattle.std.specs.Prelude.{is_none, slice_get}
+use Rattle.std.proofs.Common.{◌≡◌, ℕ, Bool, true, List, [], ◌∷◌, ◌++◌, Option, Some, None, Err, false, refl, sym, ap, ◌∙◌, subst, inl, inr, append-nil, option_map}
+use Rattle.std.specs.Prelude.{is_none, is_some, not, slice_get}
 use Rattle.type_table.specs.declared.info.TypeInfo.{TypeInfo}
 use Rattle.type_table.specs.Table.{Table, with_value}
-use Rattle.store_model.specs.declared.command.Command.{Command}
-use Rattle.store_model.specs.declared.item.Item.{Item}
-use Rattle.store_model.specs.declared.item.Item.TheVariants.{Blank, Setting, TypeDef, Command as CommandItem}
-use Rattle.store_model.specs.declared.item.Reason.TheVariants.{NotBuilt, Late, SetTwice, SetRange}
-use Rattle.store_model.specs.declared.line.Line.{Line}
-use Rattle.store_model.specs.Setup.{Setup}
-use Rattle.store_model.specs.Store.{empty_store}
-use Rattle.store_model.specs.Sets.{is_in}
+use Rattle.text_model.specs.declared.command.Command.{Command}
+use Rattle.text_model.specs.declared.item.Item.{Item}
+use Rattle.text_model.specs.declared.item.Item.TheVariants.{Blank, Setting, TypeDef, Command as CommandItem}
+use Rattle.text_model.specs.declared.item.Reason.TheVariants.{Late, SetTwice, SetRange}
+use Rattle.text_model.specs.declared.line.Line.{Line}
+use Rattle.object_model.specs.declared.settings.Settings.{Settings}
+use Rattle.object_model.specs.Setup.{Setup}
+use Rattle.object_model.specs.SettingRanges.{is_outside, ranges}
+use Rattle.object_model.specs.Sets.{is_in}
+use Rattle.store_model.specs.Store.{Store, empty_store}
 use Rattle.store_model.specs.Steps.{Does}
 use Rattle.store_model.specs.Progress.{Progress, with_setting, after_setting, after_type, after_command}
-use Rattle.store_model.specs.Checks.{first_reason, is_outside, ranges}
+use Rattle.store_model.specs.Checks.{first_reason}
 use Rattle.store_model.specs.Look.{Look}
-use Rattle.store_model.specs.Refusal.{refusal_seen, command_checks}
+use Rattle.store_model.specs.Refusal.{refusal_seen}
+use Rattle.store_model.specs.Unbuilt.{Room, program_checks}
 use Rattle.store_model.specs.Transcript.{ItemDoes}
-use Rattle.heap_core.specs.Parts.{HeapParts, HeapSeen, heap_of, closed_heap}
-use Rattle.heap_core.specs.Told.{told}
-use Rattle.heap_core.specs.StandsFor.{StandsFor}
-use Rattle.heap_core.specs.Commands.{OfParts, AreReady, CanDo, IsFresh, IsStanding, setup_in, told_by}
-use Rattle.heap_core.proofs.Ready.{passed}
+use Rattle.heap_parts.specs.Parts.{HeapParts}
+use Rattle.heap_parts.specs.Told.{told, room_told}
+use Rattle.heap_core.specs.Heap.{HeapSeen, heap_of, StandsFor}
+use Rattle.heap_core.specs.Commands.{OfParts, AreReady, CanDo, IsFresh, Performs, Keeps, setup_in, told_by, room_by}
+use Rattle.heap_core.proofs.LookLaws.{look_told, room_is}
+use Rattle.session_core.specs.declared.session.RunFault.{RunFault}
+use Rattle.session_core.specs.declared.session.RunFault.TheVariants.{OutOfMemory}
+use Rattle.session_core.specs.Blocks.{NoBlock, LeavesStore, LeavesOff, makes_blocks}
 use Rattle.session_core.specs.Seen.{SessionSeen}
-use Rattle.session_core.specs.Doing.{DoesCommand}
-use Rattle.session_core.specs.Standing.{IsStarted, HasHeap, HasStore, StandsAt, IsPlaced, DoesItem, Sets, Adds, Begins, types_in, table_of, seen_if, setup_of, refusal_of}
-use Rattle.session_core.proofs.Looks.{refusal_is, told-started}
+use Rattle.session_core.specs.Standing.{IsStarted, HasHeap, HasStore, StandsAt, IsPlaced, DoesItem, KeepsFront, Answers, Sets, Adds, Begins, types_in, table_of, seen_if, room_seen, setup_of, refusal_of}
+use Rattle.session_core.proofs.Passing.{passed}
+use Rattle.session_core.proofs.Looks.{refusal_is, look-empty}
 
 some_table : (types : Option (Table TypeInfo)) → is_none types ≡ false → (table : Table TypeInfo) × (types ≡ Some table)
 some_table None e = absurd (let no : ⊥ = cc in no)
 some_table (Some table) e = (table, refl)
 
--- a session whose script has come to a command has a heap that stands for some store
-pub heap_standing : (session : SessionSeen) (heap : HeapSeen) → session.types ≡ None → IsPlaced session heap → IsStanding heap
-heap_standing session heap is placed =
-    let has : IsStarted session.settings heap = subst (λ (t : Option (Table TypeInfo)). HasHeap t session.settings heap) is placed.stands.has_heap in
-    let stands : StandsFor heap placed.at.store = subst (λ (t : Option (Table TypeInfo)). HasStore t session.settings heap placed.at.store) is placed.stands.store in
-    subst IsStanding (sym has.is) (record { store = placed.at.store; stands = subst (λ (h : HeapSeen). StandsFor h placed.at.store) has.is stands })
-
 pub heap_started : (session : SessionSeen) (heap : HeapSeen) → session.types ≡ None → IsPlaced session heap → IsStarted session.settings heap
 heap_started session heap is placed = subst (λ (t : Option (Table TypeInfo)). HasHeap t session.settings heap) is placed.stands.has_heap
-
-pub heap_closed : (session : SessionSeen) (heap : HeapSeen) (types : Table TypeInfo) → session.types ≡ Some types → IsPlaced session heap → heap ≡ closed_heap
-heap_closed session heap types is placed = subst (λ (t : Option (Table TypeInfo)). HasHeap t session.settings heap) is placed.stands.has_heap
 
 pub does_blank : (session : SessionSeen) (heap : HeapSeen) (at : Progress) (item : Item) (before : List Line)
     → item ≡ Blank → refusal_of session heap item ≡ None → StandsAt session heap at → DoesItem session heap at item before before
@@ -50,7 +46,7 @@ unfolding ItemDoes
 does_blank session heap at item before is accepted stands = record {
   groups = [];
   next = at;
-  refused = refusal_is session heap at item stands ∙ accepted;
+  accepted = refusal_is session heap at item stands ∙ accepted;
   does = rw is (refl, refl);
   lines = sym (append-nil before);
   stands = stands;
@@ -91,7 +87,7 @@ does_setting session new heap at item name value before is accepted sets stands 
     let found = some_table session.types (setting_accepted session heap item name value is accepted).0 in record {
       groups = [];
       next = after_setting at name value;
-      refused = refusal_is session heap at item stands ∙ accepted;
+      accepted = refusal_is session heap at item stands ∙ accepted;
       does = rw is (refl, refl);
       lines = sym (append-nil before);
       stands = stands_set session new heap at found.0 name value found.1 sets stands;
@@ -102,7 +98,7 @@ type_early : (session : SessionSeen) (heap : HeapSeen) (item : Item) (id : ℕ) 
 unfolding refusal_seen
 type_early session heap item id info is accepted =
     let now : refusal_of session heap (TypeDef id info) ≡ None = ap (refusal_of session heap) (sym is) ∙ accepted in
-    (passed (is_none session.types) Late _ (passed info.destructor NotBuilt _ now).1).0
+    (passed (is_none session.types) Late _ now).0
 
 stands_typed : (session new : SessionSeen) (heap : HeapSeen) (at : Progress) (table : Table TypeInfo) (id : ℕ) (info : TypeInfo) → session.types ≡ Some table
     → Adds session new id info → StandsAt session heap at → StandsAt new heap (after_type at id info)
@@ -130,11 +126,16 @@ does_type session new heap at item id info before is accepted adds stands =
     let found = some_table session.types (type_early session heap item id info is accepted) in record {
       groups = [];
       next = after_type at id info;
-      refused = refusal_is session heap at item stands ∙ accepted;
+      accepted = refusal_is session heap at item stands ∙ accepted;
       does = rw is (refl, refl);
       lines = sym (append-nil before);
       stands = stands_typed session new heap at found.0 id info found.1 adds stands;
     }
+
+-- a table that is not there
+pub no_table : (types : Option (Table TypeInfo)) (none : Bool) → is_some types ≡ not none → none ≡ true → types ≡ None
+no_table None none e is = refl
+no_table (Some table) none e is = absurd (let no : true ≡ false = e ∙ ap (λ (b : Bool). not b) is in let never : ⊥ = cc in never)
 
 -- the heap is there already
 pub begins_again : (session new : SessionSeen) (heap : HeapSeen) → session.types ≡ None → new ≡ session → IsPlaced session heap → Begins session new heap heap
@@ -145,6 +146,7 @@ begins_again session new heap is same placed = record {
   has_heap = heap_started session heap is placed;
   table = ap (λ (t : Option (Table TypeInfo)). types_in t heap) (sym is);
   told = ap (λ (t : Option (Table TypeInfo)). seen_if t heap) (sym is);
+  room = ap (λ (t : Option (Table TypeInfo)). room_seen t heap) (sym is);
   stores = λ store stands. subst (λ (t : Option (Table TypeInfo)). HasStore t session.settings heap store) is stands;
 }
 
@@ -152,16 +154,21 @@ begins_again session new heap is same placed = record {
 pub begins_first : (session new : SessionSeen) (heap started : HeapSeen) (types : Table TypeInfo) → session.types ≡ Some types
     → new.types ≡ None → new.settings ≡ session.settings → new.names ≡ session.names
     → IsFresh started session.settings types → StandsFor started (empty_store session.settings) → Begins session new heap started
-begins_first session new heap started types is none settings names fresh empty = record {
-  types = none;
-  settings = settings;
-  names = names;
-  has_heap = record { parts = fresh.parts; is = fresh.is; settings_are = ap (λ (p : HeapParts). p.setup.settings) fresh.fresh.are };
-  table = ap (λ (h : HeapSeen). table_of h.parts) fresh.is
-      ∙ (ap (λ (p : HeapParts). p.setup.types) fresh.fresh.are ∙ ap (λ (t : Option (Table TypeInfo)). types_in t heap) (sym is));
-  told = ap told_by fresh.is ∙ (told-started fresh.parts session.settings types fresh.fresh ∙ ap (λ (t : Option (Table TypeInfo)). seen_if t heap) (sym is));
-  stores = λ store stands. subst (StandsFor started) (sym (subst (λ (t : Option (Table TypeInfo)). HasStore t session.settings heap store) is stands)) empty;
-}
+begins_first session new heap started types is none settings names fresh empty =
+    let stands : StandsFor (heap_of fresh.parts) (empty_store session.settings) =
+    subst (λ (h : HeapSeen). StandsFor h (empty_store session.settings)) fresh.is empty in
+    record {
+      types = none;
+      settings = settings;
+      names = names;
+      has_heap = record { parts = fresh.parts; is = fresh.is; settings_are = ap (λ (p : HeapParts). p.setup.settings) fresh.fresh.are };
+      table = ap (λ (h : HeapSeen). table_of h.parts) fresh.is
+          ∙ (ap (λ (p : HeapParts). p.setup.types) fresh.fresh.are ∙ ap (λ (t : Option (Table TypeInfo)). types_in t heap) (sym is));
+      told = ap told_by fresh.is ∙ (sym (look_told fresh.parts (empty_store session.settings) stands)
+          ∙ (look-empty session.settings ∙ ap (λ (t : Option (Table TypeInfo)). seen_if t heap) (sym is)));
+      room = ap room_by fresh.is ∙ (sym (room_is fresh.parts (empty_store session.settings) stands) ∙ ap (λ (t : Option (Table TypeInfo)). room_seen t heap) (sym is));
+      stores = λ store stands. subst (StandsFor started) (sym (subst (λ (t : Option (Table TypeInfo)). HasStore t session.settings heap store) is stands)) empty;
+    }
 
 -- settings and types of the heap are those of the session
 setup_same : (session mid : SessionSeen) (heap started : HeapSeen) (b : Begins session mid heap started) → b.has_heap.parts.setup ≡ setup_of session heap
@@ -172,20 +179,22 @@ setup_same session mid heap started b =
     same
 
 -- what is not refused by the session can be done by the heap that it started
-pub can_do : (session mid : SessionSeen) (heap started : HeapSeen) (item : Item) (command : Command) → item ≡ CommandItem command
-    → refusal_of session heap item ≡ None → IsPlaced session heap → Begins session mid heap started → CanDo started command
-unfolding refusal_seen
-can_do session mid heap started item command is accepted placed b =
+pub can_do : (session mid : SessionSeen) (heap started : HeapSeen) (command : Command)
+    → refusal_of session heap (CommandItem command) ≡ None → IsPlaced session heap → Begins session mid heap started → CanDo started command
+can_do session mid heap started command accepted placed b =
     let parts = b.has_heap.parts in
-    let now : first_reason (command_checks (setup_of session heap) (seen_if session.types heap) command) ≡ None = ap (refusal_of session heap) (sym is) ∙ accepted in
-    let told_is : told parts ≡ seen_if session.types heap = ap told_by (sym b.has_heap.is) ∙ b.told in
+    let setup = setup_of session heap in
+    let seen = seen_if session.types heap in
+    let told_is : told parts ≡ seen = ap told_by (sym b.has_heap.is) ∙ b.told in
+    let room_same : room_told parts ≡ room_seen session.types heap = ap room_by (sym b.has_heap.is) ∙ b.room in
     let ready : AreReady parts command = record {
       standing = record {
         store = placed.at.store;
         stands = subst (λ (h : HeapSeen). StandsFor h placed.at.store) b.has_heap.is (b.stores placed.at.store placed.stands.store);
       };
-      accepted = ap (λ (setup : Setup). first_reason (command_checks setup (told parts) command)) (setup_same session mid heap started b)
-          ∙ (ap (λ (seen : Look). first_reason (command_checks (setup_of session heap) seen command)) told_is ∙ now);
+      accepted = ap (λ (s : Setup). first_reason (program_checks s (told parts) (room_told parts) command)) (setup_same session mid heap started b)
+          ∙ (ap (λ (l : Look). first_reason (program_checks setup l (room_told parts) command)) told_is
+          ∙ (ap (λ (r : Room). first_reason (program_checks setup seen r command)) room_same ∙ accepted));
     } in
     subst (λ (h : HeapSeen). CanDo h command) (sym b.has_heap.is) ready
 
@@ -197,18 +206,15 @@ started_by heap setup (Some parts) is some unspent =
     let same : heap ≡ heap_of parts = λ i. record { parts = is i; is_spent = unspent i } in
     (parts, same, (let e : parts.setup ≡ setup = cc in e))
 
-pub does_command : (session mid : SessionSeen) (heap started new : HeapSeen) (at : Progress) (item : Item) (command : Command) (before after : List Line)
-    → item ≡ CommandItem command → refusal_of session heap item ≡ None → Begins session mid heap started
-    → DoesCommand started new command before after → StandsAt session heap at → DoesItem mid new at item before after
-unfolding ItemDoes
-does_command session mid heap started new at item command before after is accepted b does stands =
+-- Session and heap stand behind a command that left this store, where settings and types of the heap stayed.
+stands_behind : (session mid : SessionSeen) (heap started new : HeapSeen) (at : Progress) (store : Store) → Begins session mid heap started
+    → setup_in new ≡ setup_in started → new.is_spent ≡ started.is_spent → StandsFor new store → StandsAt session heap at
+    → StandsAt mid new (after_command at store)
+stands_behind session mid heap started new at store b setup_stays spent_stays for stands =
     let old = b.has_heap.parts in
-    let step = does.does at.store (b.stores at.store stands.store) in
-    let taken : Does old.setup at.store command does.lines step.0 =
-    subst (λ (h : HeapSeen). OfParts h.parts (λ parts. Does parts.setup at.store command does.lines step.0)) b.has_heap.is step.1 in
     let setup_is : old.setup ≡ at.setup = setup_same session mid heap started b ∙ sym stands.setup in
-    let kept : setup_in new ≡ Some old.setup = does.setup ∙ ap setup_in b.has_heap.is in
-    let unspent : new.is_spent ≡ false = does.same_spent ∙ ap (λ (h : HeapSeen). h.is_spent) b.has_heap.is in
+    let kept : setup_in new ≡ Some old.setup = setup_stays ∙ ap setup_in b.has_heap.is in
+    let unspent : new.is_spent ≡ false = spent_stays ∙ ap (λ (h : HeapSeen). h.is_spent) b.has_heap.is in
     let parts = started_by new old.setup new.parts refl kept unspent in
     let has : IsStarted mid.settings new = record {
       parts = parts.0;
@@ -220,22 +226,72 @@ does_command session mid heap started new at item command before after is accept
     let settings : at.setup.settings ≡ mid.settings = ap (λ (s : Setup). s.settings) stands.setup ∙ sym b.settings in
     let setup : at.setup ≡ setup_of mid new = λ i. record { settings = settings i; types = sym types i } in
     record {
+      has_heap = subst (λ (t : Option (Table TypeInfo)). HasHeap t mid.settings new) (sym b.types) has;
+      setup = setup;
+      names = stands.names ∙ sym b.names;
+      late = ap is_none (sym b.types);
+      store = subst (λ (t : Option (Table TypeInfo)). HasStore t mid.settings new store) (sym b.types) for;
+    }
+
+pub does_command : (session mid : SessionSeen) (heap started new : HeapSeen) (at : Progress) (command : Command) (before after : List Line)
+    → refusal_of session heap (CommandItem command) ≡ None → Begins session mid heap started
+    → Performs started new command before after → StandsAt session heap at → DoesItem mid new at (CommandItem command) before after
+unfolding ItemDoes
+does_command session mid heap started new at command before after accepted b does stands =
+    let old = b.has_heap.parts in
+    let step = does.does at.store (b.stores at.store stands.store) in
+    let taken : Does old.setup at.store command does.lines step.0 =
+    subst (λ (h : HeapSeen). OfParts h.parts (λ parts. Does parts.setup at.store command does.lines step.0)) b.has_heap.is step.1 in
+    let setup_is : old.setup ≡ at.setup = setup_same session mid heap started b ∙ sym stands.setup in
+    record {
       groups = record { command = command; lines = does.lines } ∷ [];
       next = after_command at step.0;
-      refused = refusal_is session heap at item stands ∙ accepted;
-      does = rw is (record {
+      accepted = refusal_is session heap at (CommandItem command) stands ∙ accepted;
+      does = record {
         lines = does.lines;
         store = step.0;
         does = subst (λ (s : Setup). Does s at.store command does.lines step.0) setup_is taken;
         groups_are = refl;
         leaves = refl;
-      });
-      lines = does.appended ∙ ap (λ (more : List Line). before ++ more) (sym (append-nil does.lines));
-      stands = record {
-        has_heap = subst (λ (t : Option (Table TypeInfo)). HasHeap t mid.settings new) (sym b.types) has;
-        setup = setup;
-        names = stands.names ∙ sym b.names;
-        late = ap is_none (sym b.types);
-        store = subst (λ (t : Option (Table TypeInfo)). HasStore t mid.settings new step.0) (sym b.types) step.2;
       };
+      lines = does.appended ∙ ap (λ (more : List Line). before ++ more) (sym (append-nil does.lines));
+      stands = stands_behind session mid heap started new at step.0 b does.setup does.same_spent step.2 stands;
     }
+
+-- no block
+leaves_none : (makes : Bool) (settings : Settings) (store : Store) → LeavesStore makes settings store store
+leaves_none true settings store = NoBlock
+leaves_none false settings store = refl
+
+-- memory ran out in a command, and nothing was done but that the heap was started
+pub leaves_command : (session mid : SessionSeen) (heap started new : HeapSeen) (at : Progress) (command : Command) (before after : List Line) (fault : RunFault)
+    → fault ≡ OutOfMemory → Begins session mid heap started → Keeps started new → KeepsFront before after → StandsAt session heap at
+    → Answers at (CommandItem command) mid new before after (Err fault)
+unfolding LeavesOff
+leaves_command session mid heap started new at command before after fault is b keeps front stands = rw is (
+  front,
+  inr (record {
+    next = after_command at at.store;
+    leaves = inr (at.store, leaves_none (makes_blocks command) at.setup.settings at.store, refl);
+    stands = stands_behind session mid heap started new at at.store b keeps.setup keeps.same_spent (keeps.stands at.store (b.stores at.store stands.store)) stands;
+  }),
+)
+
+stays_at : (at : Progress) (item : Item) → LeavesOff at item at
+unfolding LeavesOff
+stays_at at Blank = refl
+stays_at at (Setting name value) = refl
+stays_at at (TypeDef id info) = refl
+stays_at at (CommandItem command) = inl refl
+
+-- memory ran out in an item, and nothing was done
+pub leaves_item : (session new : SessionSeen) (heap heap_after : HeapSeen) (at : Progress) (item : Item) (lines : List Line) (fault : RunFault)
+    → fault ≡ OutOfMemory → new ≡ session → heap_after ≡ heap → StandsAt session heap at → Answers at item new heap_after lines lines (Err fault)
+leaves_item session new heap heap_after at item lines fault is same same_heap stands = rw is (
+  ([], sym (append-nil lines)),
+  inr (record {
+    next = at;
+    leaves = stays_at at item;
+    stands = rw (same, same_heap) stands;
+  }),
+)

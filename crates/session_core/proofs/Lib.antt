@@ -1,5 +1,5 @@
 pub mod Ranges
+pub mod Passing
 pub mod Looks
-pub mod Doing
 pub mod Items
 pub mod Places

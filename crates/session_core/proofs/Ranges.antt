@@ -1,9 +1,9 @@
 -- Settings stay in their ranges when one is set in its range.
-use Rattle.std.proofs.Common.{◌≡◌, ℕ, zero, suc, false, List, [], ◌∷◌, refl, sym, subst}
+use Rattle.std.proofs.Common.{◌≡◌, ◌≤◌, ℕ, zero, suc, false, List, [], ◌∷◌, refl, sym, subst}
 use Rattle.std.specs.Prelude.{slice_get, slice_set, nat_lt, ◌||◌, Bool, true}
 use Rattle.std.proofs.lemmas.Bool.{ltb-false}
-use Rattle.store_model.specs.declared.settings.Settings.{Settings}
-use Rattle.store_model.specs.Checks.{AreWithin, AreInRange, values_of, ranges, is_outside}
+use Rattle.object_model.specs.declared.settings.Settings.{Settings}
+use Rattle.object_model.specs.SettingRanges.{AreWithin, AreInRange, values_of, ranges, is_outside}
 use Rattle.store_model.specs.Progress.{with_setting}
 
 or_false : (a b : Bool) → (a || b) ≡ false → (a ≡ false) × (b ≡ false)
@@ -43,3 +43,7 @@ pub setting_in_range : (settings : Settings) (name value : ℕ) → AreInRange s
     → AreInRange (with_setting settings name value)
 setting_in_range settings name value within inside =
     subst (AreWithin ranges) (sym (set-value settings name value inside)) (within-set ranges (values_of settings) name value within inside)
+
+-- the greatest nursery, and the greatest limit
+pub few_words : (settings : Settings) → AreInRange settings → (settings.nursery ≤ 1048576) × (settings.limit ≤ 16777216)
+few_words settings within = (within.1, within.2.2.1)

@@ -1,3 +1,4 @@
 pub mod Seen
+pub mod Blocks
 pub mod Standing
-pub mod Doing
+pub mod Commands

@@ -1,79 +1,151 @@
 //! The commands that are not refused.
-ghost use Rattle.std.specs.Prelude.{OnOk, ◌⊎◌};
-ghost use Rattle.store_model.specs.declared.command.Command.TheVariants.{Get, Load, Same, Used};
-ghost use Rattle.heap_core.specs.Commands.{CanDo, CanBear, Bears};
-ghost use Rattle.store_model.specs.Steps.{array_request};
-ghost use Rattle.session_core.specs.Doing.{DoesCommand};
+ghost use Rattle.std.specs.Prelude.{◌≡◌, ◌<◌, false, IfErr, OnOk, OnErr, vec_len, vec_capacity};
+ghost use Rattle.heap_core.specs.declared.fault.HeapFault.TheVariants.{OutOfMemory};
+ghost use Rattle.heap_core.specs.Commands.{CanDo, Performs, Keeps};
+ghost use Rattle.session_core.specs.Commands.{is_birth, is_early, is_no_struct};
+ghost use Rattle.session_core.specs.Standing.{KeepsFront};
 
-use heap_core::{Heap, HeapFault};
+use heap_core::{Dec, Heap, HeapFault};
 use store_model::{Command, Line};
 
-/// Does a command that is not refused, and appends its lines.
+/// Does a command that is not refused, and appends its lines. Where memory runs out, the heap stands where it stood, and the
+/// old lines stand in front.
 pub(crate) fn do_command(
     heap: &mut Heap,
     command: &Command,
     out: &mut Vec<Line>,
 ) -> Result<(), HeapFault>
-    requires { CanDo heap.old command.now }
-    ensures { OnOk result (DoesCommand heap.old heap.new command.now out.old.items out.new.items) }
+    requires can { CanDo heap.old command.now }
+    requires alive { heap.old.is_spent ≡ false }
+    ensures performs { OnOk result (Performs heap.old heap.new command.now out.old.items out.new.items) }
+    ensures err { OnErr result (Keeps heap.old heap.new) }
+    ensures err_out { OnErr result (KeepsFront out.old.items out.new.items) }
+    ensures cause { IfErr result (λ fault. fault ≡ OutOfMemory) }
 {
     match *command {
-        Command::NewFixed { root, type_id } => heap.new_object(root, type_id, 0, out),
-        Command::NewArray { root, type_id, len } => heap.new_object(root, type_id, len, out),
-        Command::Put { root, item, value } => heap.put(root, item, value),
-        Command::Get { root, item } => get(heap, root, item, out),
-        Command::Link { root, item, from } => heap.link(root, item, from),
-        Command::Load { to, root, item } => load(heap, to, root, item, out),
-        Command::MoveRoot { to, from } => heap.move_root(to, from),
-        Command::DropRoot { root } => heap.drop_root(root),
-        Command::Same { a, b } => same(heap, a, b, out),
-        Command::Used => used(heap, out),
-        _ => Ok(()),
+        Command::NewFixed { root, type_id } => heap.new_fixed(root, type_id, out),
+        Command::NewArray { root, type_id, len } => heap.new_array(root, type_id, len, out),
+        _ => {
+            out.reserve(1)?;
+            on_objects(heap, command, out)
+        }
     }
 }
 
-/// A whole number of the object in a slot.
-fn get(heap: &mut Heap, root: u32, item: u64, out: &mut Vec<Line>) -> Result<(), HeapFault>
-    requires { CanDo heap.old (Get root item) }
-    ensures { OnOk result (DoesCommand heap.old heap.new (Get root item) out.old.items out.new.items) }
+/// The same of a command that bears nothing: it prints one line at most, for which there is room.
+fn on_objects(heap: &mut Heap, command: &Command, out: &mut Vec<Line>) -> Result<(), HeapFault>
+    requires can { CanDo heap.old command.now }
+    requires alive { heap.old.is_spent ≡ false }
+    requires room { vec_len out.old < vec_capacity out.old }
+    requires rest { is_birth command.now ≡ false }
+    ensures performs { OnOk result (Performs heap.old heap.new command.now out.old.items out.new.items) }
+    ensures err { OnErr result (Keeps heap.old heap.new) }
+    ensures err_out { OnErr result (KeepsFront out.old.items out.new.items) }
+    ensures cause { IfErr result (λ fault. fault ≡ OutOfMemory) }
 {
-    let value = heap.get(root, item)?;
-    out.push(Line::Got { value })?;
-    Ok(())
+    match *command {
+        Command::Put { root, item, value } => heap.put(root, item, value),
+        Command::Get { root, item } => {
+            let value = heap.get(root, item)?;
+            out.push_reserved(Line::Got { value });
+            Ok(())
+        }
+        Command::Link { root, item, from } => heap.link(root, item, from),
+        Command::Load { to, root, item } => {
+            let birth = heap.load(to, root, item)?;
+            out.push_reserved(Line::Loaded { birth });
+            Ok(())
+        }
+        Command::MoveRoot { to, from } => heap.move_root(to, from),
+        Command::DropRoot { root } => heap.drop_root(root),
+        Command::Same { a, b } => {
+            let yes = heap.same(a, b)?;
+            out.push_reserved(Line::SameAs { yes });
+            Ok(())
+        }
+        Command::Used => {
+            let (kept, husks) = heap.used()?;
+            out.push_reserved(Line::UsedIs { kept, husks });
+            Ok(())
+        }
+        _ => on_identity(heap, command, out),
+    }
 }
 
-/// A reference of the object in a slot, into another slot.
-fn load(
-    heap: &mut Heap,
-    to: u32,
-    root: u32,
-    item: u64,
-    out: &mut Vec<Line>,
-) -> Result<(), HeapFault>
-    requires { CanDo heap.old (Load to root item) }
-    ensures { OnOk result (DoesCommand heap.old heap.new (Load to root item) out.old.items out.new.items) }
+/// The same of where objects are, and of pins.
+fn on_identity(heap: &mut Heap, command: &Command, out: &mut Vec<Line>) -> Result<(), HeapFault>
+    requires can { CanDo heap.old command.now }
+    requires alive { heap.old.is_spent ≡ false }
+    requires room { vec_len out.old < vec_capacity out.old }
+    requires rest { is_early command.now ≡ false }
+    ensures performs { OnOk result (Performs heap.old heap.new command.now out.old.items out.new.items) }
+    ensures err { OnErr result (Keeps heap.old heap.new) }
+    ensures err_out { OnErr result (KeepsFront out.old.items out.new.items) }
+    ensures cause { IfErr result (λ fault. fault ≡ OutOfMemory) }
 {
-    let birth = heap.load(to, root, item)?;
-    out.push(Line::Loaded { birth })?;
-    Ok(())
+    match *command {
+        Command::Place { root } => {
+            let place = heap.where_is(root)?;
+            out.push_reserved(Line::PlaceIs { place });
+            Ok(())
+        }
+        Command::Pin { root } => {
+            let yes = heap.pin(root)?;
+            out.push_reserved(Line::PinIs { yes });
+            Ok(())
+        }
+        Command::Unpin { root } => heap.unpin(root),
+        _ => on_structs(heap, command, out),
+    }
 }
 
-/// Whether two slots hold the same.
-fn same(heap: &mut Heap, a: u32, b: u32, out: &mut Vec<Line>) -> Result<(), HeapFault>
-    requires { CanDo heap.old (Same a b) }
-    ensures { OnOk result (DoesCommand heap.old heap.new (Same a b) out.old.items out.new.items) }
+/// The same of C structures.
+fn on_structs(heap: &mut Heap, command: &Command, out: &mut Vec<Line>) -> Result<(), HeapFault>
+    requires can { CanDo heap.old command.now }
+    requires alive { heap.old.is_spent ≡ false }
+    requires room { vec_len out.old < vec_capacity out.old }
+    requires rest { is_no_struct command.now ≡ false }
+    ensures performs { OnOk result (Performs heap.old heap.new command.now out.old.items out.new.items) }
+    ensures err { OnErr result (Keeps heap.old heap.new) }
+    ensures err_out { OnErr result (KeepsFront out.old.items out.new.items) }
+    ensures cause { IfErr result (λ fault. fault ≡ OutOfMemory) }
 {
-    let equal = heap.same(a, b)?;
-    out.push(Line::SameAs { yes: equal })?;
-    Ok(())
-}
-
-/// The words of all objects, and those of husks.
-fn used(heap: &mut Heap, out: &mut Vec<Line>) -> Result<(), HeapFault>
-    requires { CanDo heap.old Used }
-    ensures { OnOk result (DoesCommand heap.old heap.new Used out.old.items out.new.items) }
-{
-    let (kept, husks) = heap.used()?;
-    out.push(Line::UsedIs { kept, husks })?;
-    Ok(())
+    match *command {
+        Command::MakeLink {
+            p,
+            number,
+            root,
+            light,
+            own,
+        } => heap.make_link(p, number, root, light, own),
+        Command::Inc { number } => heap.inc(number),
+        Command::Dec { number } => {
+            match heap.dec(number)? {
+                Dec::Lowered => {}
+                Dec::Deallocated => out.push_reserved(Line::Dealloc { number }),
+            }
+            Ok(())
+        }
+        Command::Count { number } => {
+            let value = heap.count(number)?;
+            out.push_reserved(Line::CountIs { value });
+            Ok(())
+        }
+        Command::FromObj { root } => {
+            let number = heap.from_obj(root)?;
+            out.push_reserved(Line::FromObjIs { number });
+            Ok(())
+        }
+        Command::ToObj { to, number } => {
+            let birth = heap.to_obj(to, number)?;
+            out.push_reserved(Line::ToObjIs { birth });
+            Ok(())
+        }
+        Command::NextDead => {
+            let number = heap.next_dead()?;
+            out.push_reserved(Line::NextDeadIs { number });
+            Ok(())
+        }
+        _ => unreachable!(),
+    }
 }

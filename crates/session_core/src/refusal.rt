@@ -1,23 +1,30 @@
 //! Why an item is refused, if it is: the checks in their order.
-ghost use Rattle.std.specs.Prelude.{◌≡◌, ◌≤◌, [], ◌∷◌, ◌++◌, Option, is_none, nat_le, length, false};
+ghost use Rattle.std.specs.Prelude.{◌≡◌, ◌≤◌, ◌+◌, [], ◌∷◌, ◌++◌, Some, is_none, length, false};
 ghost use Rattle.type_table.specs.Table.{value_at};
-ghost use Rattle.type_table.specs.declared.info.TypeInfo.{TypeInfo};
-ghost use Rattle.store_model.specs.Range.{is_above};
-ghost use Rattle.store_model.specs.Setup.{type_at};
-ghost use Rattle.store_model.specs.Sets.{is_in};
-ghost use Rattle.store_model.specs.Shapes.{is_fixed_shape, is_array_shape};
-ghost use Rattle.store_model.specs.Checks.{first_reason, setting_checks, type_checks, slots_checks, born_checks, room_checks, type_words, int_checks, ref_checks};
-ghost use Rattle.store_model.specs.Refusal.{command_checks, checks_in_range};
-ghost use Rattle.session_core.specs.Standing.{IsPlaced, setup_of, seen_if, types_in, refusal_of};
+ghost use Rattle.text_model.specs.Range.{is_above};
+ghost use Rattle.text_model.specs.declared.item.Reason.TheVariants.{NotBuilt as Unbuilt};
+ghost use Rattle.object_model.specs.Setup.{type_at};
+ghost use Rattle.object_model.specs.Sets.{is_in};
+ghost use Rattle.object_model.specs.Shapes.{is_fixed_shape, is_array_shape, is_weak_shape};
+ghost use Rattle.store_model.specs.Births.{words_asked, words_of_type};
+ghost use Rattle.store_model.specs.Checks.{first_reason, setting_checks, type_checks, slots_checks, found_checks, born_checks, int_checks, ref_checks, copy_checks};
+ghost use Rattle.store_model.specs.StructChecks.{weak_checks, unpin_checks, queue_checks, link_checks, struct_checks};
+ghost use Rattle.store_model.specs.Refusal.{checks_in_range};
+ghost use Rattle.store_model.specs.Unbuilt.{is_unbuilt, needs_collection, program_checks};
+ghost use Rattle.session_core.specs.Standing.{IsPlaced, setup_of, seen_if, room_seen, types_in, refusal_of};
 
+use crate::checks::{
+    copy_refusal, dec_refusal, found_refusal, inc_refusal, int_refusal, link_refusal,
+    queue_refusal, ref_refusal, slot_refusal, slots_refusal, struct_refusal, weak_refusal,
+};
 use crate::session::Session;
 use crate::settings::is_outside;
 use heap_core::Heap;
-use store_model::{Command, Item, Kind, Reason, Shape, TypeInfo};
+use store_model::{Command, Item, Reason, Shape, TypeInfo};
 use type_table::{MAX_TYPES, words};
 
 impl Session {
-    /// The first reason for which an item is refused, if it is.
+    /// The first reason for which the program refuses an item, if it does.
     #[tactic(auto, unfolding(store_model::specs::Refusal::refusal_seen))]
     pub(crate) fn refusal(&self, heap: &Heap, item: &Item) -> Option<Reason>
         requires { IsPlaced self.now heap.now }
@@ -26,7 +33,7 @@ impl Session {
         match *item {
             Item::Blank => None,
             Item::Setting { name, value } => self.setting_refusal(name, value),
-            Item::TypeDef { id, info } => self.type_refusal(heap, id, info),
+            Item::TypeDef { id, .. } => self.type_refusal(heap, id),
             Item::Command(command) => self.command_refusal(heap, &command),
         }
     }
@@ -46,14 +53,11 @@ impl Session {
         None
     }
 
-    fn type_refusal(&self, heap: &Heap, id: u16, info: TypeInfo) -> Option<Reason>
+    fn type_refusal(&self, heap: &Heap, id: u16) -> Option<Reason>
         requires { IsPlaced self.now heap.now }
         ensures { let types = types_in self.now.types heap.now in
-            result ≡ first_reason (type_checks info.destructor (is_none self.now.types) (value_at types id) (length types)) }
+            result ≡ first_reason (type_checks (is_none self.now.types) (value_at types id) (length types)) }
     {
-        if info.destructor {
-            return Some(Reason::NotBuilt);
-        }
         let Some(types) = &self.types else {
             return Some(Reason::Late);
         };
@@ -66,65 +70,93 @@ impl Session {
         None
     }
 
-    /// The first reason for which a command is refused, if it is.
+    /// The first reason for which the program refuses a command, if it does.
     fn command_refusal(&self, heap: &Heap, command: &Command) -> Option<Reason>
         requires { IsPlaced self.now heap.now }
-        ensures { result ≡ first_reason (command_checks (setup_of self.now heap.now) (seen_if self.now.types heap.now) command.now) }
+        ensures { result ≡ first_reason (program_checks (setup_of self.now heap.now) (seen_if self.now.types heap.now) (room_seen self.now.types heap.now) command.now) }
     {
         if command.is_above() {
             return Some(Reason::Range);
         }
+        if is_unbuilt(command) {
+            return Some(Reason::NotBuilt);
+        }
         self.refusal_in_range(heap, command)
     }
 
-    /// The same for a command none of whose numbers is out of range.
+    /// The same for a command that is built, and none of whose numbers is out of range.
     fn refusal_in_range(&self, heap: &Heap, command: &Command) -> Option<Reason>
         requires placed { IsPlaced self.now heap.now }
         requires in_range { is_above command.now ≡ false }
-        ensures { result ≡ first_reason (checks_in_range (setup_of self.now heap.now) (seen_if self.now.types heap.now) command.now) }
+        requires built { is_unbuilt command.now ≡ false }
+        ensures { let setup = setup_of self.now heap.now in
+            result ≡ first_reason (checks_in_range setup (seen_if self.now.types heap.now) command.now
+            ++ (needs_collection setup (room_seen self.now.types heap.now) (words_asked setup command.now), Unbuilt) ∷ []) }
     {
+        let roots = self.settings.roots;
         match *command {
             Command::NewFixed { root, type_id } => self.fixed_refusal(heap, root, type_id),
             Command::NewArray { root, type_id, len } => {
                 self.array_refusal(heap, root, type_id, len)
             }
-            Command::Put { root, item, .. } => self.int_refusal(heap, root, item),
-            Command::Get { root, item } => self.int_refusal(heap, root, item),
-            Command::Link { root, item, from } => self.ref_refusal(heap, root, from, root, item),
-            Command::Load { to, root, item } => self.ref_refusal(heap, to, root, root, item),
-            Command::MoveRoot { to, from } => self.slots_refusal(to, from),
-            Command::DropRoot { root } => self.slot_refusal(root),
-            Command::Same { a, b } => self.slots_refusal(a, b),
-            Command::Used => None,
-            _ => Some(Reason::NotBuilt),
+            Command::NewWeak {
+                root,
+                type_id,
+                target,
+            } => self.new_weak_refusal(heap, root, type_id, target),
+            Command::Put { root, item, .. } => self.item_refusal(heap, root, item),
+            Command::Get { root, item } => self.item_refusal(heap, root, item),
+            Command::Link { root, item, from } => {
+                self.reference_refusal(heap, root, from, root, item)
+            }
+            Command::Load { to, root, item } => self.reference_refusal(heap, to, root, root, item),
+            Command::CopyRefs {
+                root,
+                item,
+                from,
+                from_item,
+                count,
+            } => self.copies_refusal(heap, root, from, item + count, from_item + count),
+            Command::MoveRoot { to, from } => slots_refusal(roots, to, from),
+            Command::DropRoot { root } => slot_refusal(roots, root),
+            Command::Same { a, b } => slots_refusal(roots, a, b),
+            Command::Ident { root } => self.object_refusal(heap, root),
+            Command::Hash { root } => self.object_refusal(heap, root),
+            Command::Place { root } => self.object_refusal(heap, root),
+            Command::Pin { root } => self.object_refusal(heap, root),
+            Command::Unpin { root } => self.unpin_refusal(heap, root),
+            Command::Deref { to, root } => self.deref_refusal(heap, to, root),
+            Command::Register { .. } => unreachable!(),
+            Command::NextFinal { to, queue } => self.next_refusal(to, queue),
+            Command::MakeLink {
+                p,
+                number,
+                root,
+                ..
+            } => self.make_link_refusal(heap, p, number, root),
+            Command::Inc { number } => inc_refusal(self.struct_state(heap, number)),
+            Command::Dec { number } => dec_refusal(self.struct_state(heap, number)),
+            Command::Count { number } => struct_refusal(self.struct_state(heap, number)),
+            Command::FromObj { root } => self.object_refusal(heap, root),
+            Command::ToObj { to, number } => self.to_obj_refusal(heap, to, number),
+            Command::NextDead | Command::Minor | Command::Step | Command::Collect | Command::Used =>
+                None,
         }
     }
 
-    /// Of one slot that a command names.
-    fn slot_refusal(&self, root: u32) -> Option<Reason>
-        ensures { result ≡ first_reason (slots_checks self.now.settings.roots (root ∷ [])) }
+    /// Of a slot that must hold something.
+    fn object_refusal(&self, heap: &Heap, root: u32) -> Option<Reason>
+        requires { IsPlaced self.now heap.now }
+        ensures { result ≡ first_reason (slots_checks self.now.settings.roots (root ∷ []) ++ found_checks ((seen_if self.now.types heap.now).kind root)) }
     {
         if u64::from(root) >= self.settings.roots {
             return Some(Reason::NoRoot);
         }
-        None
-    }
-
-    /// Of two slots that a command names.
-    fn slots_refusal(&self, a: u32, b: u32) -> Option<Reason>
-        ensures { result ≡ first_reason (slots_checks self.now.settings.roots (a ∷ b ∷ [])) }
-    {
-        if u64::from(a) >= self.settings.roots {
-            return Some(Reason::NoRoot);
-        }
-        if u64::from(b) >= self.settings.roots {
-            return Some(Reason::NoRoot);
-        }
-        None
+        found_refusal(self.kind_in(heap, root))
     }
 
     /// Of a whole number of the object in a slot.
-    fn int_refusal(&self, heap: &Heap, root: u32, item: u64) -> Option<Reason>
+    fn item_refusal(&self, heap: &Heap, root: u32, item: u64) -> Option<Reason>
         requires { IsPlaced self.now heap.now }
         ensures { result ≡ first_reason (slots_checks self.now.settings.roots (root ∷ []) ++ int_checks ((seen_if self.now.types heap.now).kind root) item) }
     {
@@ -135,7 +167,7 @@ impl Session {
     }
 
     /// Of a reference of the object in a slot, where a command names two slots.
-    fn ref_refusal(
+    fn reference_refusal(
         &self,
         heap: &Heap,
         first: u32,
@@ -146,22 +178,106 @@ impl Session {
         requires { IsPlaced self.now heap.now }
         ensures { result ≡ first_reason (slots_checks self.now.settings.roots (first ∷ second ∷ []) ++ ref_checks ((seen_if self.now.types heap.now).kind root) item) }
     {
-        if u64::from(first) >= self.settings.roots {
-            return Some(Reason::NoRoot);
-        }
-        if u64::from(second) >= self.settings.roots {
-            return Some(Reason::NoRoot);
+        if let Some(reason) = slots_refusal(self.settings.roots, first, second) {
+            return Some(reason);
         }
         ref_refusal(self.kind_in(heap, root), item)
+    }
+
+    /// Of a copy of references, up to these ends of the two ranges of items.
+    fn copies_refusal(
+        &self,
+        heap: &Heap,
+        root: u32,
+        from: u32,
+        end: u64,
+        from_end: u64,
+    ) -> Option<Reason>
+        requires { IsPlaced self.now heap.now }
+        ensures { let seen = seen_if self.now.types heap.now in
+            result ≡ first_reason (slots_checks self.now.settings.roots (root ∷ from ∷ []) ++ copy_checks (seen.kind root) (seen.kind from) end from_end) }
+    {
+        if let Some(reason) = slots_refusal(self.settings.roots, root, from) {
+            return Some(reason);
+        }
+        copy_refusal(
+            self.kind_in(heap, root),
+            self.kind_in(heap, from),
+            end,
+            from_end,
+        )
+    }
+
+    /// Of an object that is to be unpinned.
+    fn unpin_refusal(&self, heap: &Heap, root: u32) -> Option<Reason>
+        requires { IsPlaced self.now heap.now }
+        ensures { let seen = seen_if self.now.types heap.now in
+            result ≡ first_reason (slots_checks self.now.settings.roots (root ∷ []) ++ (found_checks (seen.kind root) ++ unpin_checks (seen.is_pinned root))) }
+    {
+        if let Some(reason) = self.object_refusal(heap, root) {
+            return Some(reason);
+        }
+        if !self.is_pinned(heap, root) {
+            return Some(Reason::NotPinned);
+        }
+        None
+    }
+
+    /// Of a weak object whose target is asked for.
+    fn deref_refusal(&self, heap: &Heap, to: u32, root: u32) -> Option<Reason>
+        requires { IsPlaced self.now heap.now }
+        ensures { result ≡ first_reason (slots_checks self.now.settings.roots (to ∷ root ∷ []) ++ weak_checks ((seen_if self.now.types heap.now).kind root)) }
+    {
+        if let Some(reason) = slots_refusal(self.settings.roots, to, root) {
+            return Some(reason);
+        }
+        weak_refusal(self.kind_in(heap, root))
+    }
+
+    /// Of a slot for what comes next from a queue.
+    fn next_refusal(&self, to: u32, queue: u64) -> Option<Reason>
+        ensures { result ≡ first_reason (slots_checks self.now.settings.roots (to ∷ []) ++ queue_checks self.now.settings.queues queue) }
+    {
+        if u64::from(to) >= self.settings.roots {
+            return Some(Reason::NoRoot);
+        }
+        queue_refusal(self.settings.queues, queue)
+    }
+
+    /// Of a new link with the object in a slot.
+    fn make_link_refusal(&self, heap: &Heap, p: bool, number: u32, root: u32) -> Option<Reason>
+        requires { IsPlaced self.now heap.now }
+        ensures { let seen = seen_if self.now.types heap.now in
+            result ≡ first_reason (slots_checks self.now.settings.roots (root ∷ []) ++ (found_checks (seen.kind root)
+            ++ link_checks (seen.structure number) p (seen.has_p_link root))) }
+    {
+        if let Some(reason) = self.object_refusal(heap, root) {
+            return Some(reason);
+        }
+        link_refusal(
+            self.struct_state(heap, number),
+            p,
+            self.has_p_link(heap, root),
+        )
+    }
+
+    /// Of a slot for the object of a structure.
+    fn to_obj_refusal(&self, heap: &Heap, to: u32, number: u32) -> Option<Reason>
+        requires { IsPlaced self.now heap.now }
+        ensures { result ≡ first_reason (slots_checks self.now.settings.roots (to ∷ []) ++ struct_checks ((seen_if self.now.types heap.now).structure number)) }
+    {
+        if u64::from(to) >= self.settings.roots {
+            return Some(Reason::NoRoot);
+        }
+        struct_refusal(self.struct_state(heap, number))
     }
 
     /// Of the birth of an object of a fixed type.
     fn fixed_refusal(&self, heap: &Heap, root: u32, type_id: u16) -> Option<Reason>
         requires { IsPlaced self.now heap.now }
-        ensures { let seen = seen_if self.now.types heap.now in
-            let info : Option TypeInfo = type_at (setup_of self.now heap.now) type_id in
-            result ≡ first_reason (slots_checks self.now.settings.roots (root ∷ []) ++ (born_checks info is_fixed_shape
-            ++ room_checks self.now.settings (type_words info 0) seen.unsettled seen.fresh seen.kept)) }
+        ensures { let setup = setup_of self.now heap.now in
+            result ≡ first_reason (slots_checks self.now.settings.roots (root ∷ []) ++ born_checks (type_at setup type_id) is_fixed_shape
+            ++ (needs_collection setup (room_seen self.now.types heap.now) (words_of_type (type_at setup type_id) 0), Unbuilt) ∷ []) }
     {
         if u64::from(root) >= self.settings.roots {
             return Some(Reason::NoRoot);
@@ -179,10 +295,9 @@ impl Session {
     fn array_refusal(&self, heap: &Heap, root: u32, type_id: u16, len: u64) -> Option<Reason>
         requires placed { IsPlaced self.now heap.now }
         requires len { len ≤ 16777216 }
-        ensures { let seen = seen_if self.now.types heap.now in
-            let info : Option TypeInfo = type_at (setup_of self.now heap.now) type_id in
-            result ≡ first_reason (slots_checks self.now.settings.roots (root ∷ []) ++ (born_checks info is_array_shape
-            ++ room_checks self.now.settings (type_words info len) seen.unsettled seen.fresh seen.kept)) }
+        ensures { let setup = setup_of self.now heap.now in
+            result ≡ first_reason (slots_checks self.now.settings.roots (root ∷ []) ++ born_checks (type_at setup type_id) is_array_shape
+            ++ (needs_collection setup (room_seen self.now.types heap.now) (words_of_type (type_at setup type_id) len), Unbuilt) ∷ []) }
     {
         if u64::from(root) >= self.settings.roots {
             return Some(Reason::NoRoot);
@@ -196,115 +311,64 @@ impl Session {
         }
     }
 
-    /// Of a birth of so many words. What would need a collection is not built yet.
+    /// Of the birth of a weak object for what a slot holds.
+    fn new_weak_refusal(&self, heap: &Heap, root: u32, type_id: u16, target: u32) -> Option<Reason>
+        requires { IsPlaced self.now heap.now }
+        ensures { let setup = setup_of self.now heap.now in
+            result ≡ first_reason (slots_checks self.now.settings.roots (root ∷ target ∷ [])
+            ++ (found_checks ((seen_if self.now.types heap.now).kind target) ++ born_checks (type_at setup type_id) is_weak_shape)
+            ++ (needs_collection setup (room_seen self.now.types heap.now) (words_of_type (type_at setup type_id) 0), Unbuilt) ∷ []) }
+    {
+        if let Some(reason) = slots_refusal(self.settings.roots, root, target) {
+            return Some(reason);
+        }
+        if self.kind_in(heap, target).is_none() {
+            return Some(Reason::NilRoot);
+        }
+        let Some(info) = self.type_info(heap, type_id) else {
+            return Some(Reason::NoType);
+        };
+        match info.shape {
+            Shape::Weak => self.room_refusal(heap, words(info, 0)),
+            _ => Some(Reason::WrongShape),
+        }
+    }
+
+    /// Of a birth of so many words: what needs a collection is not built yet.
     fn room_refusal(&self, heap: &Heap, words: u64) -> Option<Reason>
         requires placed { IsPlaced self.now heap.now }
         requires few { words ≤ 16777219 }
-        ensures { let seen = seen_if self.now.types heap.now in
-            result ≡ first_reason (room_checks self.now.settings words seen.unsettled seen.fresh seen.kept) }
+        ensures { result ≡ first_reason ((needs_collection (setup_of self.now heap.now) (room_seen self.now.types heap.now) (Some words), Unbuilt) ∷ []) }
     {
+        let settings = &self.settings;
         let unsettled = self.unsettled_words(heap);
         let fresh = self.fresh_words(heap);
-        if unsettled + fresh + words > self.settings.nursery {
+        if unsettled + fresh + words > settings.nursery {
             return Some(Reason::NotBuilt);
         }
-        let kept = self.kept_words(heap);
-        if kept + words > self.settings.limit {
+        let counted = self.counted_words(heap);
+        if counted + words > settings.limit {
             return Some(Reason::NotBuilt);
         }
         None
     }
-
-    /// The words of the objects in the nursery.
-    fn unsettled_words(&self, heap: &Heap) -> u64
-        requires { IsPlaced self.now heap.now }
-        ensures value { result ≡ (seen_if self.now.types heap.now).unsettled }
-        ensures nursery { result ≤ self.now.settings.nursery }
-    {
-        match &self.types {
-            None => heap.unsettled_words(),
-            Some(_) => 0,
-        }
-    }
-
-    /// The words of the objects that were born outside the nursery.
-    fn fresh_words(&self, heap: &Heap) -> u64
-        requires { IsPlaced self.now heap.now }
-        ensures value { result ≡ (seen_if self.now.types heap.now).fresh }
-        ensures limit { result ≤ self.now.settings.limit }
-    {
-        match &self.types {
-            None => heap.fresh_words(),
-            Some(_) => 0,
-        }
-    }
-
-    /// The words of all objects.
-    fn kept_words(&self, heap: &Heap) -> u64
-        requires { IsPlaced self.now heap.now }
-        ensures value { result ≡ (seen_if self.now.types heap.now).kept }
-        ensures limit { result ≤ self.now.settings.limit }
-    {
-        match &self.types {
-            None => heap.kept_words(),
-            Some(_) => 0,
-        }
-    }
-
-    /// The type of an id, if there is one.
-    fn type_info(&self, heap: &Heap, id: u16) -> Option<TypeInfo>
-        ensures { result ≡ type_at (setup_of self.now heap.now) id }
-    {
-        match &self.types {
-            None => heap.type_info(id),
-            Some(types) => types.get(id),
-        }
-    }
-
-    /// The shape of the object in a slot with its numbers of items, if there is one.
-    fn kind_in(&self, heap: &Heap, root: u32) -> Option<Kind>
-        requires { IsPlaced self.now heap.now }
-        ensures { result ≡ (seen_if self.now.types heap.now).kind root }
-    {
-        match &self.types {
-            None => heap.kind_in(root),
-            Some(_) => None,
-        }
-    }
 }
 
-/// Of a whole number of what is in a slot.
-fn int_refusal(found: Option<Kind>, item: u64) -> Option<Reason>
-    ensures { result ≡ first_reason (int_checks found item) }
+/// Whether the program does not do a command yet.
+fn is_unbuilt(command: &Command) -> bool
+    ensures { result ≡ is_unbuilt command.now }
 {
-    let Some(kind) = found else {
-        return Some(Reason::NilRoot);
-    };
-    match kind.shape {
-        Shape::Fixed { .. } | Shape::IntArray => no_item(kind.ints, item),
-        Shape::RefArray | Shape::Weak => Some(Reason::WrongShape),
-    }
-}
-
-/// Of a reference of what is in a slot.
-fn ref_refusal(found: Option<Kind>, item: u64) -> Option<Reason>
-    ensures { result ≡ first_reason (ref_checks found item) }
-{
-    let Some(kind) = found else {
-        return Some(Reason::NilRoot);
-    };
-    match kind.shape {
-        Shape::Fixed { .. } | Shape::RefArray => no_item(kind.refs, item),
-        Shape::IntArray | Shape::Weak => Some(Reason::WrongShape),
-    }
-}
-
-/// Of an item of so many.
-fn no_item(count: u64, item: u64) -> Option<Reason>
-    ensures { result ≡ first_reason ((nat_le count item, Reason.NoItem) ∷ []) }
-{
-    if item >= count {
-        return Some(Reason::NoItem);
-    }
-    None
+    matches!(
+        *command,
+        Command::NewWeak { .. }
+            | Command::CopyRefs { .. }
+            | Command::Ident { .. }
+            | Command::Hash { .. }
+            | Command::Deref { .. }
+            | Command::Register { .. }
+            | Command::NextFinal { .. }
+            | Command::Minor
+            | Command::Step
+            | Command::Collect
+    )
 }

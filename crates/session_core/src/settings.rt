@@ -1,7 +1,7 @@
 //! Settings by their numbers, which are their places in `Settings`.
 ghost use Rattle.std.specs.Prelude.{◌≡◌, slice_get};
 ghost use Rattle.store_model.specs.Progress.{with_setting};
-ghost use Rattle.store_model.specs.Checks.{is_outside, ranges};
+ghost use Rattle.object_model.specs.SettingRanges.{is_outside, ranges};
 
 use store_model::Settings;
 

@@ -10,7 +10,7 @@ use Rattle.size_pages.specs.LiveBlocks.{page_at}
 use Rattle.size_pages.specs.PageLists.{IsPage, SameSigns, Unlinks}
 use Rattle.size_pages.specs.HasBlocks.{HasBlocksBut, HasBlocks, Stands, KeepsSizes}
 use Rattle.size_pages.specs.Steps.{IsOnlyHeads, CanTakeOff, CanStart, CanTakeUnlisted}
-use Rattle.size_pages.specs.Growth.{AllUsed, HasUnused, IsRaised, IsLowestUnused, IsOnlyCounts, IsOnlyOrder, CanList, ListsPages, AddsPages, BeginsPage}
+use Rattle.size_pages.specs.Growth.{IsEmptyPage, AllUsed, HasUnused, IsRaised, IsLowestUnused, IsOnlyCounts, IsOnlyOrder, CanList, ListsPages, AddsPages, BeginsPage}
 use Rattle.size_pages.specs.declared.Pages.{Pages}
 use Rattle.size_pages.proofs.FitLaws.{pages_part}
 use Rattle.size_pages.proofs.FitsLaws.{page_mono, header_has, places_of, below_of}
@@ -78,6 +78,18 @@ new_unused pages m o n room live waiting f k low high =
     let top : page_at size (pages.count + pages.pages_per_arena) ≤ 1099511627776 = g.below in
     arena_words_same m o n (page_at size k) ∙ word_at-none m.blocks (page_at size k) (o.free (page_at size k) (omega arith) (omega arith))
 
+-- nor is word 7 of their headers written
+new_lasts : (pages : Pages) (m : Memory) → IsInOrder m → IsInOrder (with_arena m) → pages.count + pages.pages_per_arena ≤ vec_capacity pages.order → (live : List Extent) (waiting : List ℕ) → HasBlocks pages m live waiting → (k : ℕ) → pages.count ≤ k → k < pages.count + pages.pages_per_arena → word_in (with_arena m) (page_at pages.page k + 7) ≡ 0
+new_lasts pages m o n room live waiting f k low high =
+    let size = pages.page in
+    let wide : 64 ≤ size = f.blocks.size_low in
+    let g = arena_fits pages m o n room live waiting f in
+    let end : m.next_arena ≡ page_at size (pages.count + 0) = f.end in
+    let base : page_at size (pages.count + 0) ≤ page_at size k = page_mono size (pages.count + 0) k (omega arith) in
+    let part : page_at size k + size ≤ page_at size (pages.count + pages.pages_per_arena) = pages_part size k (pages.count + pages.pages_per_arena) high in
+    let top : page_at size (pages.count + pages.pages_per_arena) ≤ 1099511627776 = g.below in
+    arena_words_same m o n (page_at size k + 7) ∙ word_at-none m.blocks (page_at size k + 7) (o.free (page_at size k + 7) (omega arith) (omega arith))
+
 pub arena_can_list : (pages : Pages) (m m1 : Memory) → Stands pages m → pages.count + pages.pages_per_arena ≤ vec_capacity pages.order → 2 * pages.small + 2 ≤ length pages.heads.items → IsInOrder m → IsInOrder m1 → m1 ≡ with_arena m → CanList pages m1 pages.pages_per_arena
 arena_can_list pages m m1 st room long o n e =
     let n1 : IsInOrder (with_arena m) = subst IsInOrder e n in
@@ -89,6 +101,7 @@ arena_can_list pages m m1 st room long o n e =
       fits = arena_fits pages m o n1 room st.live st.waiting st.fits;
       enough = omega arith;
       unused = new_unused pages m o n1 room st.live st.waiting st.fits;
+      lasts = new_lasts pages m o n1 room st.live st.waiting st.fits;
       heads = long;
     })
 
@@ -168,8 +181,8 @@ some_words pages m st =
     let p : pages.page * 1 ≤ pages.page * pages.pages_per_arena = grind arith in omega arith
 
 -- a page is begun where some is unused
-pub begins_old : (pages after : Pages) (m new : Memory) (page n : ℕ) → Stands pages m → HasUnused (word_in m) pages.page pages.count → CanTakeUnlisted after new page n → ((live : List Extent) (waiting : List ℕ) → HasBlocks pages m live waiting → HasBlocksBut after new live waiting page 0) → ((live : List Extent) (waiting : List ℕ) → HasBlocks pages m live waiting → KeepsWords m new live) → IsLowestUnused (word_in m) pages.page pages.count page → IsOnlyCounts pages after → IsInArenas m new → BeginsPage pages after m new page n
-begins_old pages after m new page n st u can started kept low counts s =
+pub begins_old : (pages after : Pages) (m new : Memory) (page n : ℕ) → Stands pages m → HasUnused (word_in m) pages.page pages.count → CanTakeUnlisted after new page n → ((live : List Extent) (waiting : List ℕ) → HasBlocks pages m live waiting → HasBlocksBut after new live waiting page 0) → ((live : List Extent) (waiting : List ℕ) → HasBlocks pages m live waiting → KeepsWords m new live) → IsLowestUnused (word_in m) pages.page pages.count page → IsOnlyCounts pages after → IsInArenas m new → IsEmptyPage (word_in new) page → BeginsPage pages after m new page n
+begins_old pages after m new page n st u can started kept low counts s empty =
     let some : 0 < m.arena_words = some_words pages m st in
     let same : new.next_arena ≡ m.next_arena = s.next_arena in
     let size = pages.page in
@@ -180,7 +193,8 @@ begins_old pages after m new page n st u can started kept low counts s =
       started = started;
       kept = kept;
       unused = low.unused;
-      lower = λ k below less. low.lower k (elim (cases_lt k low.is_page.number) [ inl a ↦ a | inr b ↦ absurd (let up : page_at size low.is_page.number ≤ page_at size k = page_mono size low.is_page.number k b in omega arith) ]);
+      empty = empty;
+      lower = λ k less. low.lower k (elim (cases_lt k low.is_page.number) [ inl a ↦ a | inr b ↦ absurd (let up : page_at size low.is_page.number ≤ page_at size k = page_mono size low.is_page.number k b in omega arith) ]);
       one = inl same;
       exactly = (λ e. absurd (omega arith), λ all. absurd (all u.number u.below u.unused));
       size = s.arena_words;
@@ -189,8 +203,8 @@ begins_old pages after m new page n st u can started kept low counts s =
     }
 
 -- a page of the new arena is begun where none is unused
-pub begins_new : (pages p1 after : Pages) (m m1 new : Memory) (page n : ℕ) → Stands pages m → AllUsed (word_in m) pages.page pages.count → AddsPages pages p1 m m1 → CanTakeUnlisted after new page n → ((live : List Extent) (waiting : List ℕ) → HasBlocks p1 m1 live waiting → HasBlocksBut after new live waiting page 0) → ((live : List Extent) (waiting : List ℕ) → HasBlocks p1 m1 live waiting → KeepsWords m1 new live) → IsLowestUnused (word_in m1) p1.page p1.count page → IsOnlyCounts p1 after → IsInArenas m1 new → BeginsPage pages after m new page n
-begins_new pages p1 after m m1 new page n st all a can started kept low counts s =
+pub begins_new : (pages p1 after : Pages) (m m1 new : Memory) (page n : ℕ) → Stands pages m → AllUsed (word_in m) pages.page pages.count → AddsPages pages p1 m m1 → CanTakeUnlisted after new page n → ((live : List Extent) (waiting : List ℕ) → HasBlocks p1 m1 live waiting → HasBlocksBut after new live waiting page 0) → ((live : List Extent) (waiting : List ℕ) → HasBlocks p1 m1 live waiting → KeepsWords m1 new live) → IsLowestUnused (word_in m1) p1.page p1.count page → IsOnlyCounts p1 after → IsInArenas m1 new → IsEmptyPage (word_in new) page → BeginsPage pages after m new page n
+begins_new pages p1 after m m1 new page n st all a can started kept low counts s empty =
     let next : new.next_arena ≡ m.next_arena + m.arena_words = s.next_arena ∙ a.next in
     let size : p1.page ≡ pages.page = a.sizes.page in
     let at : page ≡ page_at pages.page low.is_page.number = low.is_page.is ∙ ap (λ (k : ℕ). page_at k low.is_page.number) size in
@@ -200,7 +214,13 @@ begins_new pages p1 after m m1 new page n st all a can started kept low counts s
       started = λ live waiting f. started live waiting (a.added live waiting f);
       kept = λ live waiting f. keeps_then m m1 new live (a.kept live waiting f) (kept live waiting (a.added live waiting f));
       unused = ap (word_in m) at ∙ sym (a.classes low.is_page.number) ∙ ap (word_in m1) (sym at) ∙ low.unused;
-      lower = λ k below less. all k below;
+      empty = empty;
+      lower = λ k less z.
+          let below : k < low.is_page.number = (elim (cases_lt k low.is_page.number) [
+            | inl l ↦ l
+            | inr r ↦ absurd (let up : page_at pages.page low.is_page.number ≤ page_at pages.page k = page_mono pages.page low.is_page.number k r in omega (arith, up, less, at))
+          ]) in
+          low.lower k below (ap (λ (q : ℕ). word_in m1 (page_at q k)) size ∙ a.classes k ∙ z);
       one = inr next;
       exactly = (λ e. all, λ e. next);
       size = s.arena_words ∙ a.size;

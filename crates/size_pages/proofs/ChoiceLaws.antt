@@ -5,10 +5,11 @@ use Rattle.heap_space.specs.Memory.{Memory}
 use Rattle.heap_space.specs.Extents.{Extent}
 use Rattle.size_pages.specs.PageWords.{Words, word_in}
 use Rattle.size_pages.specs.LiveBlocks.{page_at}
-use Rattle.size_pages.specs.PageLists.{EachPlace, IsPage, list_number, list_of, IsListedRightly, ListsFit, HasRoom}
+use Rattle.size_pages.specs.PageLists.{EachPlace, IsPage, list_number, list_of, IsListedRightly, ListsFit, HasRoom, SameSigns}
 use Rattle.size_pages.specs.HasBlocks.{HasBlocks, Stands, KeepsSizes}
 use Rattle.size_pages.specs.Growth.{BeginsPage}
-use Rattle.size_pages.specs.Calls.{page_of, IsInNone, TakesFrom, AddsArena}
+use Rattle.size_pages.specs.Calls.{page_of, IsInNone, TakesFrom, TakesFirst, AddsArena}
+use Rattle.size_pages.specs.Steps.{TakesNext}
 use Rattle.size_pages.specs.declared.Pages.{Pages}
 use Rattle.size_pages.proofs.FitLaws.{pages_apart}
 use Rattle.size_pages.proofs.ListLaws.{places_map, places_both}
@@ -75,6 +76,26 @@ from_first pages m page n two g = record {
   full = λ z. absurd (let e : n ≡ 0 = sym g.class ∙ z in omega arith);
   lowest = λ z. absurd (let e : n ≡ 0 = sym g.class ∙ z in omega arith);
 }
+
+-- and is the first of its chain, or the first that was never handed out
+pub next_first : (pages : Pages) (m off : Memory) (page n a : ℕ) → 2 ≤ n → FirstWithRoom pages m page n → SameSigns (word_in m) (word_in off) page → TakesNext (word_in off) page a → TakesFirst (word_in m) page a
+next_first pages m off page n a two g same t =
+    let w = word_in m in record {
+      chained = λ used some. t.chained (λ z. some (sym same.chain ∙ z)) ∙ same.chain;
+      fresh = λ used none. t.fresh (same.chain ∙ none) ∙ same.fresh;
+      begun = λ z. absurd (let e : n ≡ 0 = sym g.class ∙ z in omega arith);
+    }
+
+pub next_begun : (pages after : Pages) (m new : Memory) (page n a : ℕ) → BeginsPage pages after m new page n → TakesNext (word_in new) page a → TakesFirst (word_in m) page a
+next_begun pages after m new page n a b t = record {
+  chained = λ used some. absurd (used b.unused);
+  fresh = λ used none. absurd (used b.unused);
+  begun = λ z. t.fresh b.empty.chain ∙ b.empty.fresh;
+}
+
+pub next_grown : (pages p1 : Pages) (m : Memory) (a page : ℕ) → KeepsSizes pages p1 → page ≡ page_of p1.page a → TakesFirst (word_in m) page a → TakesFirst (word_in m) (page_of pages.page a) a
+next_grown pages p1 m a page s is h =
+    subst (λ (k : ℕ). TakesFirst (word_in m) (page_of k a) a) s.page (subst (λ (p : ℕ). TakesFirst (word_in m) p a) is h)
 
 pub arena_first : (pages : Pages) (m new : Memory) (page n : ℕ) → 2 ≤ n → Stands pages m → FirstWithRoom pages m page n → new.next_arena ≡ m.next_arena → AddsArena (word_in m) pages.page pages.count n m new
 arena_first pages m new page n two st g same =

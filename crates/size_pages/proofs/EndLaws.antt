@@ -65,6 +65,7 @@ lowered_fits pages after page m live waiting except spare l h =
       small = h.classes.small;
       within = let a : pages.lowest ≤ pages.count = h.classes.within in let b : after.lowest ≤ pages.lowest = l.below in omega arith;
       used = λ k below. h.classes.used k (let b : after.lowest ≤ pages.lowest = l.below in omega arith);
+      last = h.classes.last;
     } in
     recounted_fits pages after m live waiting except spare (record { sizes = l.sizes; count = l.count; waiting = l.waiting; heads = l.heads; room = no_less pages after l.order }) classes h
 

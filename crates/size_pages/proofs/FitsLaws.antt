@@ -68,13 +68,14 @@ places_of {pages} {m} {live} {waiting} {except} {spare} f b from upto =
       high = omega arith;
     }
 
-pub classes_same : (old new : Words) (size count most lowest : ℕ) → ClassesFit old size count most lowest → ((k : ℕ) → k < count → new (page_at size k) ≡ old (page_at size k)) → ClassesFit new size count most lowest
-classes_same old new size count most lowest h same =
+pub classes_same : (old new : Words) (size count most lowest : ℕ) → ClassesFit old size count most lowest → ((k : ℕ) → k < count → new (page_at size k) ≡ old (page_at size k)) → ((k : ℕ) → k < count → new (page_at size k + 7) ≡ old (page_at size k + 7)) → ClassesFit new size count most lowest
+classes_same old new size count most lowest h same last =
     let within : lowest ≤ count = h.within in
     record {
       small = λ k below. subst (λ (c : ℕ). c ≤ most) (sym (same k below)) (h.small k below);
       within = within;
       used = λ k below e. h.used k below (sym (same k (omega arith)) ∙ e);
+      last = λ k below. last k below ∙ h.last k below;
     }
 
 pub placed_same : (old new : Memory) (size k : ℕ) → IsInArenas old new → IsPlaced old size k → IsPlaced new size k
@@ -229,6 +230,22 @@ can_link pages m page list kind c =
     }
 
 -- a word of a page that is none of its links is no link of another
+-- a page is taken off its list, or put on one: word 7 of each header stays
+pub last_unlinked : (old new : Words) (size count : ℕ) (heads after : List ℕ) (p s : ℕ) → 64 ≤ size → (old (p + 5) ≡ 0) ⊎ IsPage size count (old (p + 5)) → (old (p + 4) ≡ 0) ⊎ IsPage size count (old (p + 4)) → Unlinks old new heads after p s
+    → (k : ℕ) → k < count → new (page_at size k + 7) ≡ old (page_at size k + 7)
+last_unlinked old new size count heads after p s wide before next u k below =
+    let is : IsPage size count (page_at size k) = record { number = k; below = below; is = refl } in
+    u.rest (page_at size k + 7) (page_words size count (page_at size k) (old (p + 5)) 7 4 wide is before (omega arith) (omega arith) (omega arith))
+    (page_words size count (page_at size k) (old (p + 4)) 7 5 wide is next (omega arith) (omega arith) (omega arith))
+
+pub last_linked : (old new : Words) (size count : ℕ) (heads after : List ℕ) (p s kind : ℕ) → 64 ≤ size → IsPage size count p → (slice_index heads s ≡ 0) ⊎ IsPage size count (slice_index heads s) → Links old new heads after p s kind
+    → (k : ℕ) → k < count → new (page_at size k + 7) ≡ old (page_at size k + 7)
+last_linked old new size count heads after p s kind wide own next u k below =
+    let is : IsPage size count (page_at size k) = record { number = k; below = below; is = refl } in
+    let word : (i : ℕ) → i < 7 → page_at size k + 7 ≢ p + i = λ i small. page_words size count (page_at size k) p 7 i wide is (inr own) (omega arith) (omega (arith, small)) (omega (arith, small)) in
+    u.rest (page_at size k + 7) (word 4 (omega arith)) (word 5 (omega arith)) (word 6 (omega arith))
+    (page_words size count (page_at size k) (slice_index heads s) 7 5 wide is next (omega arith) (omega arith) (omega arith))
+
 pub no_link : (size count j y e i : ℕ) → 64 ≤ size → (y ≡ 0) ⊎ IsPage size count y → page_at size j ≤ e → e < page_at size j + size → (e < page_at size j + 4) ⊎ (page_at size j + 8 ≤ e) → 4 ≤ i → i < 8 → e ≢ y + i
 no_link size count j y e i wide py from upto part low small same = elim py [
   | inl z ↦ omega arith
@@ -254,7 +271,7 @@ off_fits pages after m new page list c u s only live waiting f =
     (lists_unlink w (word_in new) size count pages.heads.items after.heads.items waiting k list wide c.is_page.below c.not_waiting
     (subst (λ (p : ℕ). list ≡ list_of w p) at c.is_list) f.lists
     (subst (λ (p : ℕ). Unlinks w (word_in new) pages.heads.items after.heads.items p list) at u)) in
-    let classes : ClassesFit (word_in new) size count pages.small pages.lowest = classes_same w (word_in new) size count pages.small pages.lowest f.classes (λ j below. links j below (page_at size j) (omega arith) (omega arith) (inl (omega arith))) in
+    let classes : ClassesFit (word_in new) size count pages.small pages.lowest = classes_same w (word_in new) size count pages.small pages.lowest f.classes (λ j below. links j below (page_at size j) (omega arith) (omega arith) (inl (omega arith))) (last_unlinked w (word_in new) size count pages.heads.items after.heads.items page list wide b.before b.next u) in
     fits_new pages after m new live live waiting 0 page 0 f only s (fits_links w (word_in new) size count live f.blocks links) classes lists
 
 pub signs_on : (pages : Pages) (after : List ℕ) (m new : Memory) (page list : ℕ) → OnList pages m page list → Unlinks (word_in m) (word_in new) pages.heads.items after page list → SameSigns (word_in m) (word_in new) page
@@ -304,5 +321,5 @@ on_fits pages after m new page list kind c u s only live waiting spare f =
     (subst (λ (p : ℕ). ListsFit w size count pages.heads.items waiting p) at f.lists)
     (subst (λ (p : ℕ). Links w (word_in new) pages.heads.items after.heads.items p list kind) at u)
     (subst (λ (p : ℕ). IsListedRightly (word_in new) size p) at listed) in
-    let classes : ClassesFit (word_in new) size count pages.small pages.lowest = classes_same w (word_in new) size count pages.small pages.lowest f.classes (λ j below. links j below (page_at size j) (omega arith) (omega arith) (inl (omega arith))) in
+    let classes : ClassesFit (word_in new) size count pages.small pages.lowest = classes_same w (word_in new) size count pages.small pages.lowest f.classes (λ j below. links j below (page_at size j) (omega arith) (omega arith) (inl (omega arith))) (last_linked w (word_in new) size count pages.heads.items after.heads.items page list kind wide c.is_page next_page u) in
     fits_new pages after m new live live waiting page 0 spare f only s (fits_links w (word_in new) size count live f.blocks links) classes lists

@@ -20,8 +20,8 @@ pub only_same : (pages : Pages) → IsOnlyHeads pages pages
 only_same pages = record { page = refl; pages_per_arena = refl; small = refl; count = refl; lowest = refl; waiting = refl; room = refl; order = refl }
 
 -- one page changes
-pub classes_one : (old new : Words) (size count most was lowest k : ℕ) → ClassesFit old size count most was → lowest ≤ was → ((e : ℕ) → (e < page_at size k) ⊎ (page_at size k + size ≤ e) → new e ≡ old e) → 64 ≤ size → new (page_at size k) ≤ most → (k < lowest → new (page_at size k) ≢ 0) → ClassesFit new size count most lowest
-classes_one old new size count most was lowest k h less same wide small used =
+pub classes_one : (old new : Words) (size count most was lowest k : ℕ) → ClassesFit old size count most was → lowest ≤ was → ((e : ℕ) → (e < page_at size k) ⊎ (page_at size k + size ≤ e) → new e ≡ old e) → 64 ≤ size → new (page_at size k) ≤ most → (k < lowest → new (page_at size k) ≢ 0) → new (page_at size k + 7) ≡ old (page_at size k + 7) → ClassesFit new size count most lowest
+classes_one old new size count most was lowest k h less same wide small used last =
     let within : was ≤ count = h.within in
     let other : (j : ℕ) → j ≢ k → new (page_at size j) ≡ old (page_at size j) = λ j n. same (page_at size j) (elim (pages_apart size j k n) [ inl a ↦ inl (omega arith) | inr b ↦ inr b ]) in
     record {
@@ -33,6 +33,10 @@ classes_one old new size count most was lowest k h less same wide small used =
       used = λ j below. elim (eqb_tells j k) [
         | inl a ↦ subst (λ (i : ℕ). i < lowest → new (page_at size i) ≢ 0) (sym a.1) used below
         | inr b ↦ λ e. h.used j (omega arith) (sym (other j b.1) ∙ e)
+      ];
+      last = λ j below. elim (eqb_tells j k) [
+        | inl a ↦ subst (λ (i : ℕ). new (page_at size i + 7) ≡ 0) (sym a.1) (last ∙ h.last k (let e : j ≡ k = a.1 in omega (arith, below, e)))
+        | inr b ↦ same (page_at size j + 7) (elim (pages_apart size j k b.1) [ inl c ↦ inl (omega arith) | inr d ↦ inr (omega arith) ]) ∙ h.last j below
       ];
     }
 
@@ -148,7 +152,8 @@ given_fits pages m new live waiting except spare page a n f b g s right =
     (λ ne. (record { class = subst (λ (e : ℕ). now e ≡ old e) (omega arith) (word 0 (omega arith) (omega arith) (omega arith)); next = word 4 (omega arith) (omega arith) (omega arith); before = word 5 (omega arith) (omega arith) (omega arith); kind = word 6 (omega arith) (omega arith) (omega arith) }, right ne)) in
     let is_class : now (page_at size k) ≡ old (page_at size k) = subst (λ (q : ℕ). now q ≡ old q) at (subst (λ (e : ℕ). now e ≡ old e) (omega arith) (word 0 (omega arith) (omega arith) (omega arith))) in
     let classes : ClassesFit now size count pages.small pages.lowest = classes_one old now size count pages.small pages.lowest pages.lowest k f.classes (omega arith) (subst (λ (q : ℕ). (e : ℕ) → (e < q) ⊎ (q + size ≤ e) → now e ≡ old e) at only) wide
-    (subst (λ (c : ℕ). c ≤ pages.small) (sym is_class) (f.classes.small k b.page.below)) (λ below e. f.classes.used k below (sym is_class ∙ e)) in
+    (subst (λ (c : ℕ). c ≤ pages.small) (sym is_class) (f.classes.small k b.page.below)) (λ below e. f.classes.used k below (sym is_class ∙ e))
+    (subst (λ (q : ℕ). now (q + 7) ≡ old (q + 7)) at (word 7 (omega arith) (omega arith) (omega arith))) in
     fits_new pages pages m new ((a, n) ∷ live) live waiting except except spare f (only_same pages) s blocks classes lists
 
 -- the page's words after it got a free block
@@ -193,5 +198,6 @@ cleared_fits pages m new live waiting page a n f lowered b one g s =
     let lists : ListsFit now size count pages.heads.items waiting page = lists_inner old now size count pages.heads.items waiting page page wide f.lists b.page only (λ ne. absurd (ne refl)) in
     let is_class : now (page_at size k) ≡ 0 = subst (λ (q : ℕ). now q ≡ 0) at g.class in
     let classes : ClassesFit now size count pages.small pages.lowest = classes_one old now size count pages.small pages.lowest pages.lowest k f.classes (omega arith) (subst (λ (q : ℕ). (e : ℕ) → (e < q) ⊎ (q + size ≤ e) → now e ≡ old e) at only) wide (omega arith)
-    (λ below. absurd (let up : page_at size k + size ≤ page_at size pages.lowest = pages_part size k pages.lowest below in omega arith)) in
+    (λ below. absurd (let up : page_at size k + size ≤ page_at size pages.lowest = pages_part size k pages.lowest below in omega arith))
+    (subst (λ (q : ℕ). now (q + 7) ≡ old (q + 7)) at (g.rest (page + 7) (omega arith) (omega arith) (omega arith) (omega arith))) in
     fits_new pages pages m new ((a, n) ∷ live) live waiting page page 0 f (only_same pages) s blocks classes lists

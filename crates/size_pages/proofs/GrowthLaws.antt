@@ -191,4 +191,4 @@ raised_fits pages after m page r low live waiting f =
       | inr b ↦ b
     ] in
     recounted_fits pages after m live waiting 0 0 (record { sizes = r.sizes; count = r.count; waiting = r.waiting; heads = r.heads; room = no_less pages after r.order })
-    (record { small = f.classes.small; within = omega arith; used = λ k below. low.lower k (omega arith) }) f
+    (record { small = f.classes.small; within = omega arith; used = λ k below. low.lower k (omega arith); last = f.classes.last }) f

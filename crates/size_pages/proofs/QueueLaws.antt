@@ -13,7 +13,7 @@ use Rattle.size_pages.specs.declared.Pages.{Pages}
 use Rattle.size_pages.proofs.FitLaws.{pages_part, fits_links, StaysButLinks}
 use Rattle.size_pages.proofs.ListLaws.{places_map}
 use Rattle.size_pages.proofs.ListMoves.{page_words, not_zero, first_page, lists_link_any}
-use Rattle.size_pages.proofs.FitsLaws.{fits_any, places_of, below_of, header_has, has_or, no_link, classes_same, beside}
+use Rattle.size_pages.proofs.FitsLaws.{last_linked, fits_any, places_of, below_of, header_has, has_or, no_link, classes_same, beside}
 use Rattle.size_pages.proofs.EndLaws.{heads_long, number_of_list}
 use Rattle.size_pages.proofs.KeepLaws.{keeps_then, links_keep, off_keeps}
 use Rattle.size_pages.proofs.ArenaLaws.{arenas_then}
@@ -78,7 +78,7 @@ wait_fits pages after m new page c u s only more live waiting f above =
     (subst (λ (p : ℕ). ListsFit w size count pages.heads.items waiting p) at f.lists)
     (subst (λ (p : ℕ). Links w now pages.heads.items after.heads.items p 1 3) at u)
     (subst (λ (p : ℕ). IsListedRightly now size p) at listed) in
-    let classes : ClassesFit now size count pages.small pages.lowest = classes_same w now size count pages.small pages.lowest f.classes (λ j below. links j below (page_at size j) (omega arith) (omega arith) (inl (omega arith))) in
+    let classes : ClassesFit now size count pages.small pages.lowest = classes_same w now size count pages.small pages.lowest f.classes (λ j below. links j below (page_at size j) (omega arith) (omega arith) (inl (omega arith))) (last_linked w now size count pages.heads.items after.heads.items page 1 3 wide c.is_page next_page u) in
     fits_any pages after m new live live waiting (page ∷ waiting) page 0 0 f only s (fits_links w now size count live f.blocks links) classes lists (more ∙ (let e : pages.waiting ≡ length waiting = f.waits in omega arith)) (above, f.rising)
 
 -- as many places as rise below a number are at most that number

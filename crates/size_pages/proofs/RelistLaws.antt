@@ -14,7 +14,7 @@ use Rattle.size_pages.specs.declared.Pages.{Pages}
 use Rattle.size_pages.proofs.FitLaws.{pages_part, fits_one, fits_links, stays_elsewhere, StaysButLinks}
 use Rattle.size_pages.proofs.ListLaws.{Cut}
 use Rattle.size_pages.proofs.ListMoves.{not_zero, lists_unlink_any}
-use Rattle.size_pages.proofs.FitsLaws.{OnList, beside, no_link, classes_same, header_has, places_of, below_of, fits_any, fits_new}
+use Rattle.size_pages.proofs.FitsLaws.{last_unlinked, OnList, beside, no_link, classes_same, header_has, places_of, below_of, fits_any, fits_new}
 use Rattle.size_pages.proofs.GiveLaws.{IsOnlyPage, lists_inner, classes_one, only_same, length_none}
 use Rattle.size_pages.proofs.EndLaws.{heads_long, lowered_fits}
 use Rattle.size_pages.proofs.TakeLaws.{list_is}
@@ -46,7 +46,7 @@ first_off pages after m new page c u s only less live rest f =
     let lists : ListsFit (word_in new) size count after.heads.items rest page = subst (λ (p : ℕ). ListsFit (word_in new) size count after.heads.items rest p) (sym at)
     (lists_unlink_any w (word_in new) size count pages.heads.items after.heads.items (page ∷ rest) rest k 1 f.lists cut wide on.is_page.below (λ e. refl) (λ n. absurd (n refl))
     (subst (λ (p : ℕ). 1 ≡ list_of w p) at on.is_list) (subst (λ (p : ℕ). Unlinks w (word_in new) pages.heads.items after.heads.items p 1) at u)) in
-    let classes : ClassesFit (word_in new) size count pages.small pages.lowest = classes_same w (word_in new) size count pages.small pages.lowest f.classes (λ j below. links j below (page_at size j) (omega arith) (omega arith) (inl (omega arith))) in
+    let classes : ClassesFit (word_in new) size count pages.small pages.lowest = classes_same w (word_in new) size count pages.small pages.lowest f.classes (λ j below. links j below (page_at size j) (omega arith) (omega arith) (inl (omega arith))) (last_unlinked w (word_in new) size count pages.heads.items after.heads.items page 1 wide b.before b.next u) in
     fits_any pages after m new live live (page ∷ rest) rest 0 page 0 f only s (fits_links w (word_in new) size count live f.blocks links) classes lists (less ∙ (let e : pages.waiting ≡ length (page ∷ rest) = f.waits in omega arith)) f.rising.1
 
 -- a page with no live block is cleared
@@ -69,7 +69,8 @@ cleared_none pages m new live waiting page f lowered is none used g s =
     let lists : ListsFit now size count pages.heads.items waiting page = lists_inner old now size count pages.heads.items waiting page page wide f.lists is only (λ ne. absurd (ne refl)) in
     let is_class : now (page_at size k) ≡ 0 = subst (λ (q : ℕ). now q ≡ 0) at g.class in
     let classes : ClassesFit now size count pages.small pages.lowest = classes_one old now size count pages.small pages.lowest pages.lowest k f.classes (omega arith) (subst (λ (q : ℕ). (e : ℕ) → (e < q) ⊎ (q + size ≤ e) → now e ≡ old e) at only) wide (omega arith)
-    (λ below. absurd (let up : page_at size k + size ≤ page_at size pages.lowest = pages_part size k pages.lowest below in omega arith)) in
+    (λ below. absurd (let up : page_at size k + size ≤ page_at size pages.lowest = pages_part size k pages.lowest below in omega arith))
+    (subst (λ (q : ℕ). now (q + 7) ≡ old (q + 7)) at (g.rest (page + 7) (omega arith) (omega arith) (omega arith) (omega arith))) in
     fits_new pages pages m new live live waiting page page 0 f (only_same pages) s blocks classes lists
 
 sizes_of : (a b : Pages) → IsOnlyLists a b → KeepsSizes a b

@@ -15,7 +15,7 @@ use Rattle.size_pages.proofs.PageLaws.{page_holds}
 use Rattle.size_pages.proofs.FitLaws.{fits_one, stays_elsewhere, page_used, pages_part, filter_skips, in_page_false}
 use Rattle.size_pages.proofs.ListLaws.{places_map, places_both}
 use Rattle.size_pages.proofs.ListMoves.{page_words, first_page}
-use Rattle.size_pages.proofs.FitsLaws.{fits_new}
+use Rattle.size_pages.proofs.FitsLaws.{fits_new, last_linked}
 use Rattle.size_pages.proofs.GiveLaws.{IsOnlyPage, lists_inner, classes_one, only_same}
 use Rattle.size_pages.proofs.KeepLaws.{keeps_same, keeps_then, links_keep}
 use Rattle.size_pages.proofs.ArenaLaws.{arenas_then, arenas_same}
@@ -47,7 +47,8 @@ started_fits pages m new page n c g s live waiting spare f =
     let two : 2 ≤ n = c.low in
     let is_class : now (page_at size k) ≡ n = subst (λ (r : ℕ). now r ≡ n) at g.class in
     let classes : ClassesFit now size count pages.small pages.lowest = classes_one w now size count pages.small pages.lowest pages.lowest k f.classes (omega arith) (subst (λ (r : ℕ). (e : ℕ) → (e < r) ⊎ (r + size ≤ e) → now e ≡ w e) at only) wide
-    (subst (λ (r : ℕ). r ≤ pages.small) (sym is_class) c.small) (λ below z. let e : n ≡ 0 = sym is_class ∙ z in omega arith) in
+    (subst (λ (r : ℕ). r ≤ pages.small) (sym is_class) c.small) (λ below z. let e : n ≡ 0 = sym is_class ∙ z in omega arith)
+    (subst (λ (r : ℕ). now (r + 7) ≡ w (r + 7)) at (g.rest (page + 7) (omega arith) (omega arith) (omega arith) (omega arith))) in
     fits_new pages pages m new live live waiting page page spare f (only_same pages) s blocks classes lists
 
 pub can_take_started : (pages : Pages) (m new : Memory) (page n : ℕ) → CanStart pages m page n → Starts (word_in m) (word_in new) page n → IsInArenas m new → CanTakeUnlisted pages new page n
@@ -130,8 +131,8 @@ pub record IsMore (old new : Pages) : Type 0 where
   pub order : new.order ≡ old.order
 
 -- a page that was spare is counted, and is on no list yet
-pub counted_fits : (pages after : Pages) (m : Memory) (live : List Extent) (waiting : List ℕ) (spare : ℕ) → IsMore pages after → word_in m (page_at pages.page pages.count) ≡ 0 → 2 * pages.small + 2 ≤ length pages.heads.items → HasBlocksBut pages m live waiting 0 (spare + 1) → HasBlocksBut after m live waiting (page_at pages.page pages.count) spare
-counted_fits pages after m live waiting spare more unused long f =
+pub counted_fits : (pages after : Pages) (m : Memory) (live : List Extent) (waiting : List ℕ) (spare : ℕ) → IsMore pages after → word_in m (page_at pages.page pages.count) ≡ 0 → word_in m (page_at pages.page pages.count + 7) ≡ 0 → 2 * pages.small + 2 ≤ length pages.heads.items → HasBlocksBut pages m live waiting 0 (spare + 1) → HasBlocksBut after m live waiting (page_at pages.page pages.count) spare
+counted_fits pages after m live waiting spare more unused last long f =
     let size = pages.page in
     let count = pages.count in
     let w = word_in m in
@@ -149,6 +150,10 @@ counted_fits pages after m live waiting spare more unused long f =
       ];
       within = let i : pages.lowest ≤ count = f.classes.within in omega arith;
       used = f.classes.used;
+      last = λ k below. elim (eqb_tells k count) [
+        | inl a ↦ subst (λ (i : ℕ). w (page_at size i + 7) ≡ 0) (sym a.1) last
+        | inr b ↦ f.classes.last k (let n : k ≢ count = b.1 in omega arith)
+      ];
     } in
     record {
       size_high = subst (λ (k : ℕ). k ≤ 8192) (sym is_page) f.size_high;
@@ -182,10 +187,11 @@ one_spare n h = omega arith
 pub can_list_page : (pages after : Pages) (m : Memory) → IsMore pages after → CanList pages m 1 → CanPutOn after m (page_at pages.page pages.count) 0 0
 can_list_page pages after m more c =
     let unused : word_in m (page_at pages.page pages.count) ≡ 0 = let some : 1 ≤ c.spare = c.enough in c.unused pages.count (omega arith) (omega arith) in
+    let last : word_in m (page_at pages.page pages.count + 7) ≡ 0 = let some : 1 ≤ c.spare = c.enough in c.lasts pages.count (omega arith) (omega arith) in
     let e : c.spare ≡ (c.spare - 1) + 1 = one_spare c.spare c.enough in
     let long : 2 * pages.small + 2 ≤ length pages.heads.items = c.heads in
     record {
-      stands = record { live = c.live; waiting = c.waiting; spare = c.spare - 1; fits = counted_fits pages after m c.live c.waiting (c.spare - 1) more unused c.heads (subst (λ (k : ℕ). HasBlocksBut pages m c.live c.waiting 0 k) e c.fits) };
+      stands = record { live = c.live; waiting = c.waiting; spare = c.spare - 1; fits = counted_fits pages after m c.live c.waiting (c.spare - 1) more unused last c.heads (subst (λ (k : ℕ). HasBlocksBut pages m c.live c.waiting 0 k) e c.fits) };
       is_page = counted_page pages after more;
       is_list = refl;
       not_waiting = omega arith;
@@ -208,11 +214,12 @@ class_kept old new size count p k list kind heads after wide is next u =
     let there : page_at size k + 0 ≢ slice_index heads list + 5 = page_words size top (page_at size k) (slice_index heads list) 0 5 wide at (elim next [ inl z ↦ inl z | inr q ↦ inr (page_grows size count top (slice_index heads list) (omega arith) q) ]) (omega arith) (omega arith) (omega arith) in
     u.rest (page_at size k) (omega arith) (omega arith) (omega arith) (omega arith)
 
-pub page_listed : (pages after last : Pages) (m new : Memory) → IsMore pages after → CanList pages m 1 → Links (word_in m) (word_in new) after.heads.items last.heads.items (page_at pages.page pages.count) 0 0 → IsOnlyHeads after last → IsInArenas m new
-    → ((live : List Extent) (waiting : List ℕ) (spare : ℕ) → HasBlocksBut after m live waiting (page_at pages.page pages.count) spare → HasBlocksBut last new live waiting 0 spare) → ListsPages pages last m new 1
-page_listed pages after last m new more c u only s on =
+pub page_listed : (pages after last_pages : Pages) (m new : Memory) → IsMore pages after → CanList pages m 1 → Links (word_in m) (word_in new) after.heads.items last_pages.heads.items (page_at pages.page pages.count) 0 0 → IsOnlyHeads after last_pages → IsInArenas m new
+    → ((live : List Extent) (waiting : List ℕ) (spare : ℕ) → HasBlocksBut after m live waiting (page_at pages.page pages.count) spare → HasBlocksBut last_pages new live waiting 0 spare) → ListsPages pages last_pages m new 1
+page_listed pages after last_pages m new more c u only s on =
     let unused : word_in m (page_at pages.page pages.count) ≡ 0 = let some : 1 ≤ c.spare = c.enough in c.unused pages.count (omega arith) (omega arith) in
-    let counted : (live : List Extent) (waiting : List ℕ) (spare : ℕ) → HasBlocksBut pages m live waiting 0 (spare + 1) → HasBlocksBut after m live waiting (page_at pages.page pages.count) spare = λ live waiting spare f. counted_fits pages after m live waiting spare more unused c.heads f in
+    let last : word_in m (page_at pages.page pages.count + 7) ≡ 0 = let some : 1 ≤ c.spare = c.enough in c.lasts pages.count (omega arith) (omega arith) in
+    let counted : (live : List Extent) (waiting : List ℕ) (spare : ℕ) → HasBlocksBut pages m live waiting 0 (spare + 1) → HasBlocksBut after m live waiting (page_at pages.page pages.count) spare = λ live waiting spare f. counted_fits pages after m live waiting spare more unused last c.heads f in
     let p = page_at pages.page pages.count in
     let is = counted_page pages after more in
     let can = can_list_page pages after m more c in
@@ -225,8 +232,12 @@ page_listed pages after last m new more c u only s on =
       lowest = only.lowest ∙ more.lowest;
       room = only.room ∙ ap (λ (v : List ℕ). length v) more.heads;
       listed = λ live waiting spare f. on live waiting spare (counted live waiting spare f);
-      kept = λ live waiting spare f. links_keep after last.heads.items m new p 0 0 live waiting spare is u (counted live waiting spare f);
-      classes = λ k. subst (λ (n : ℕ). word_in new (page_at n k) ≡ word_in m (page_at n k)) more.sizes.page (class_kept (word_in m) (word_in new) after.page after.count p k 0 0 after.heads.items last.heads.items can.stands.fits.blocks.size_low is next_page u);
+      kept = λ live waiting spare f. links_keep after last_pages.heads.items m new p 0 0 live waiting spare is u (counted live waiting spare f);
+      classes = λ k. subst (λ (n : ℕ). word_in new (page_at n k) ≡ word_in m (page_at n k)) more.sizes.page (class_kept (word_in m) (word_in new) after.page after.count p k 0 0 after.heads.items last_pages.heads.items can.stands.fits.blocks.size_low is next_page u);
+      lasts = λ k. subst (λ (n : ℕ). word_in new (page_at n k + 7) ≡ word_in m (page_at n k + 7)) more.sizes.page
+          (let top = k + (after.count + 1) in
+          last_linked (word_in m) (word_in new) after.page top after.heads.items last_pages.heads.items p 0 0 can.stands.fits.blocks.size_low (page_grows after.page after.count top p (omega arith) is)
+          (elim next_page [ inl z ↦ inl z | inr q ↦ inr (page_grows after.page after.count top next (omega arith) q) ]) u k (omega arith));
       arenas = s;
     }
 
@@ -239,6 +250,7 @@ lists_none pages m = record {
   listed = λ live waiting spare f. subst (λ (k : ℕ). HasBlocksBut pages m live waiting 0 k) (let e : spare + 0 ≡ spare = omega arith in e) f;
   kept = λ live waiting spare f. keeps_same m m live (λ e. refl);
   classes = λ k. refl;
+  lasts = λ k. refl;
   arenas = arenas_same m;
 }
 
@@ -253,6 +265,7 @@ lists_then a b c k l m i n h g =
       listed = λ live waiting spare f. g.listed live waiting spare (fits live waiting spare f);
       kept = λ live waiting spare f. keeps_then k l m live (h.kept live waiting (spare + n) (subst (λ (s : ℕ). HasBlocksBut a k live waiting 0 s) (let e : spare + (i + n) ≡ (spare + n) + i = omega arith in e) f)) (g.kept live waiting spare (fits live waiting spare f));
       classes = λ j. subst (λ (size : ℕ). word_in m (page_at size j) ≡ word_in l (page_at size j)) h.sizes.page (g.classes j) ∙ h.classes j;
+      lasts = λ j. subst (λ (size : ℕ). word_in m (page_at size j + 7) ≡ word_in l (page_at size j + 7)) h.sizes.page (g.lasts j) ∙ h.lasts j;
       arenas = arenas_then k l m h.arenas g.arenas;
     }
 
@@ -269,5 +282,6 @@ can_list_more pages after m new n i small c l =
       fits = l.listed c.live c.waiting (c.spare - i) (subst (λ (s : ℕ). HasBlocksBut pages m c.live c.waiting 0 s) e c.fits);
       enough = omega arith;
       unused = λ k low high. subst (λ (size : ℕ). word_in new (page_at size k) ≡ 0) (sym l.sizes.page) (l.classes k ∙ c.unused k (omega arith) (omega arith));
+      lasts = λ k low high. subst (λ (size : ℕ). word_in new (page_at size k + 7) ≡ 0) (sym l.sizes.page) (l.lasts k ∙ c.lasts k (omega arith) (omega arith));
       heads = let long : 2 * pages.small + 2 ≤ length pages.heads.items = c.heads in let a : after.small ≡ pages.small = l.sizes.small in let b : length after.heads.items ≡ length pages.heads.items = l.room in omega arith;
     }

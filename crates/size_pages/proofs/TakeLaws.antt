@@ -128,14 +128,15 @@ taken_fits pages m new page n x c t s live waiting spare f =
     let h = q.holds in
     let fresh_low : page + 8 ≤ w (page + 3) = h.fresh_low in
     let fresh_high : w (page + 3) ≤ page + size = h.fresh_high in
-    let make : (free : List Extent) → PageHolds now size page free ((x, n) ∷ blocks_of size page live) → IsOnlyPage w now page size → w page ≡ now page → HasBlocksBut pages new ((x, n) ∷ live) waiting page spare = λ free holds only same.
+    let make : (free : List Extent) → PageHolds now size page free ((x, n) ∷ blocks_of size page live) → IsOnlyPage w now page size → w page ≡ now page → now (page + 7) ≡ w (page + 7) → HasBlocksBut pages new ((x, n) ∷ live) waiting page spare = λ free holds only same last.
     fits_new pages pages m new live ((x, n) ∷ live) waiting page page spare f (only_same pages) s
     (fits_more w now size count c.is_page.number (x, n) free live c.is_page.below f.blocks
     (subst (λ (r : ℕ). PageHolds now size r free ((x, n) ∷ blocks_of size r live)) at holds)
     (stays_elsewhere w now size count c.is_page.number (subst (λ (r : ℕ). (e : ℕ) → (e < r) ⊎ (r + size ≤ e) → now e ≡ w e) at only)))
     (classes_one w now size count pages.small pages.lowest pages.lowest c.is_page.number f.classes (omega arith) (subst (λ (r : ℕ). (e : ℕ) → (e < r) ⊎ (r + size ≤ e) → now e ≡ w e) at only) wide
     (subst (λ (r : ℕ). now r ≤ pages.small) at (subst (λ (k : ℕ). k ≤ pages.small) (sym class ∙ same) c.small))
-    (λ below. subst (λ (r : ℕ). now r ≢ 0) at (λ z. let e : n ≡ 0 = sym class ∙ same ∙ z in omega arith)))
+    (λ below. subst (λ (r : ℕ). now r ≢ 0) at (λ z. let e : n ≡ 0 = sym class ∙ same ∙ z in omega arith))
+    (subst (λ (r : ℕ). now (r + 7) ≡ w (r + 7)) at last))
     (lists_inner w now size count pages.heads.items waiting page page wide f.lists c.is_page only (λ ne. absurd (ne refl))) in
     elim (eqb_tells (w (page + 1)) 0) [
       | inl z ↦
@@ -145,6 +146,7 @@ taken_fits pages m new page n x c t s live waiting spare f =
           make q.free (holds_fresh w now size page x n q.free (blocks_of size page live) h (sym class) g room)
           (λ e out. elim out [ inl a ↦ g.rest e (omega arith) (omega arith) (omega arith) (omega arith) | inr b ↦ g.rest e (omega arith) (omega arith) (omega arith) (omega arith) ])
           (sym (g.rest page (omega arith) (omega arith) (omega arith) (omega arith)))
+          (g.rest (page + 7) (omega arith) (omega arith) (omega arith) (omega arith))
       | inr y ↦
           let g = t.chained y.1 in
           let first : x ≡ w (page + 1) = g.first in
@@ -157,6 +159,7 @@ taken_fits pages m new page n x c t s live waiting spare f =
           make head.rest moved
           (λ e out. elim out [ inl a ↦ g.rest e (omega arith) (omega arith) (omega arith) (omega arith) | inr b ↦ g.rest e (omega arith) (omega arith) (omega arith) (omega arith) ])
           (sym (g.rest page (omega arith) (omega arith) (omega arith) (omega arith)))
+          (g.rest (page + 7) (omega arith) (omega arith) (omega arith) (omega arith))
     ]
 
 pub record TakenSigns (old new : Words) (p : ℕ) : Type 0 where

@@ -22,11 +22,18 @@ abbrev pub NoneHasRoom : Words → ℕ → ℕ → ℕ → Type 0
 NoneHasRoom w size count n =
     (k : ℕ) → k < count → w (page_at size k) ≡ n → w (page_at size k + 6) ≢ 3 → ¬ HasRoom w size (page_at size k)
 
--- the block comes from a page of its class, or from the lowest unused one, where none of its class has room
+-- the block comes from a page of its class, or from the lowest unused one, where none of its class has room; that may be
+-- the first of an arena to come, of which no word is written yet
 pub record TakesFrom (w : Words) (size count n p : ℕ) : Type 0 where
   pub class : (w p ≡ n) ⊎ (w p ≡ 0)
   pub full : w p ≡ 0 → NoneHasRoom w size count n
-  pub lowest : w p ≡ 0 → (k : ℕ) → k < count → page_at size k < p → w (page_at size k) ≢ 0
+  pub lowest : w p ≡ 0 → (k : ℕ) → page_at size k < p → w (page_at size k) ≢ 0
+
+-- of its page, the block is the first of the chain, and where none is chained the first that was never handed out
+pub record TakesFirst (w : Words) (p a : ℕ) : Type 0 where
+  pub chained : w p ≢ 0 → w (p + 1) ≢ 0 → a ≡ w (p + 1)
+  pub fresh : w p ≢ 0 → w (p + 1) ≡ 0 → a ≡ w (p + 3)
+  pub begun : w p ≡ 0 → a ≡ p + 8
 
 -- an arena is added exactly where no page of the class has room and no page is unused
 pub record AddsArena (w : Words) (size count n : ℕ) (old new : Memory) : Type 0 where

@@ -68,6 +68,7 @@ pub record CanList (pages : Pages) (m : Memory) (n : ℕ) : Type 0 where
   pub fits : HasBlocksBut pages m live waiting 0 spare
   pub enough : n ≤ spare
   pub unused : (k : ℕ) → pages.count ≤ k → k < pages.count + spare → word_in m (page_at pages.page k) ≡ 0
+  pub lasts : (k : ℕ) → pages.count ≤ k → k < pages.count + spare → word_in m (page_at pages.page k + 7) ≡ 0
   pub heads : 2 * pages.small + 2 ≤ length pages.heads.items
 
 -- so many pages more are counted, and are on the list of the unused ones
@@ -79,6 +80,7 @@ pub record ListsPages (old new : Pages) (m after : Memory) (n : ℕ) : Type 0 wh
   pub listed : (live : List Extent) (waiting : List ℕ) (spare : ℕ) → HasBlocksBut old m live waiting 0 (spare + n) → HasBlocksBut new after live waiting 0 spare
   pub kept : (live : List Extent) (waiting : List ℕ) (spare : ℕ) → HasBlocksBut old m live waiting 0 (spare + n) → KeepsWords m after live
   pub classes : (k : ℕ) → word_in after (page_at old.page k) ≡ word_in m (page_at old.page k)
+  pub lasts : (k : ℕ) → word_in after (page_at old.page k + 7) ≡ word_in m (page_at old.page k + 7)
   pub arenas : IsInArenas m after
 
 -- an arena is added, with all its pages unused
@@ -95,6 +97,11 @@ pub record AddsPages (old new : Pages) (m after : Memory) : Type 0 where
   pub classes : (k : ℕ) → word_in after (page_at old.page k) ≡ word_in m (page_at old.page k)
   pub outside : KeepsOutside 4294967296 1099511627776 m after
 
+-- no block of the page was handed out
+pub record IsEmptyPage (w : Words) (p : ℕ) : Type 0 where
+  pub chain : w (p + 1) ≡ 0
+  pub fresh : w (p + 3) ≡ p + 8
+
 -- the lowest unused page gets the class n, and is on no list. Before that an arena is added where none is unused
 pub record BeginsPage (old new : Pages) (m after : Memory) (page n : ℕ) : Type 0 where
   pub sizes : KeepsSizes old new
@@ -102,7 +109,8 @@ pub record BeginsPage (old new : Pages) (m after : Memory) (page n : ℕ) : Type
   pub started : (live : List Extent) (waiting : List ℕ) → HasBlocks old m live waiting → HasBlocksBut new after live waiting page 0
   pub kept : (live : List Extent) (waiting : List ℕ) → HasBlocks old m live waiting → KeepsWords m after live
   pub unused : word_in m page ≡ 0
-  pub lower : (k : ℕ) → k < old.count → page_at old.page k < page → word_in m (page_at old.page k) ≢ 0
+  pub lower : (k : ℕ) → page_at old.page k < page → word_in m (page_at old.page k) ≢ 0
+  pub empty : IsEmptyPage (word_in after) page
   pub one : (after.next_arena ≡ m.next_arena) ⊎ (after.next_arena ≡ m.next_arena + m.arena_words)
   pub exactly : (after.next_arena ≡ m.next_arena + m.arena_words) ↔ AllUsed (word_in m) old.page old.count
   pub size : after.arena_words ≡ m.arena_words

@@ -7,6 +7,22 @@ use Rattle.size_pages.specs.LiveBlocks.{BlocksFit, ClassesFit, page_at}
 use Rattle.size_pages.specs.PageLists.{EachPlace, ListsFit}
 use Rattle.size_pages.specs.declared.Pages.{Pages}
 
+-- the words of a page
+abbrev pub page_size : Pages → ℕ
+page_size pages = pages.page
+
+-- the pages of an arena
+abbrev pub arena_pages : Pages → ℕ
+arena_pages pages = pages.pages_per_arena
+
+-- the greatest words of a block
+abbrev pub greatest_block : Pages → ℕ
+greatest_block pages = pages.small
+
+-- how many pages there are, in all arenas
+abbrev pub page_count : Pages → ℕ
+page_count pages = pages.count
+
 -- each place is below those behind it
 abbrev pub IsRising : List ℕ → Type 0
 IsRising [] = Unit {0}
@@ -61,6 +77,6 @@ pub record IsLive (pages : Pages) (m : Memory) (x : Extent) : Type 0 where
 
 -- the numbers that the pages were made with stay
 pub record KeepsSizes (old new : Pages) : Type 0 where
-  pub page : new.page ≡ old.page
-  pub pages_per_arena : new.pages_per_arena ≡ old.pages_per_arena
-  pub small : new.small ≡ old.small
+  pub page : page_size new ≡ page_size old
+  pub pages_per_arena : arena_pages new ≡ arena_pages old
+  pub small : greatest_block new ≡ greatest_block old

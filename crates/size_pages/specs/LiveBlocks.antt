@@ -36,8 +36,9 @@ pub record BlocksFit (w : Words) (size count : ℕ) (live : List Extent) : Type 
   pub inside : Each (IsInPages size count) live
   pub apart : AreApart live
 
--- no class has more than `most` words, and the first `lowest` pages are in use
+-- no class has more than `most` words, the first `lowest` pages are in use, and word 7 of each header is 0
 pub record ClassesFit (w : Words) (size count most lowest : ℕ) : Type 0 where
   pub small : (k : ℕ) → k < count → w (page_at size k) ≤ most
   pub within : lowest ≤ count
   pub used : (k : ℕ) → k < lowest → w (page_at size k) ≢ 0
+  pub last : (k : ℕ) → k < count → w (page_at size k + 7) ≡ 0

@@ -1,7 +1,7 @@
 -- What the steps of the calls ask of the words, and what they change.
 use Rattle.std.specs.Prelude.{◌≡◌, ◌≢◌, ℕ, ◌+◌, ◌*◌, ◌<◌, ◌≤◌, ◌^◌, List, length, slice_index}
 use Rattle.heap_space.specs.Memory.{Memory}
-use Rattle.size_pages.specs.PageWords.{word_in, CanStore, HasAll}
+use Rattle.size_pages.specs.PageWords.{Words, word_in, CanStore, HasAll}
 use Rattle.size_pages.specs.PageLists.{IsPage, IsRight, HasRoom, list_of, list_number}
 use Rattle.size_pages.specs.HasBlocks.{StandsBut, Stands, IsLive}
 use Rattle.size_pages.specs.declared.Pages.{Pages}
@@ -41,6 +41,11 @@ pub record CanTake (m : Memory) (page n : ℕ) : Type 0 where
   pub fresh_in : word_in m (page + 1) ≡ 0 → CanStore m (word_in m (page + 3))
   pub fresh_apart : page + 8 ≤ word_in m (page + 3)
   pub fresh_high : word_in m (page + 3) + n < 2 ^ 62
+
+-- the block is the first of the page's chain, and where none is chained the first that was never handed out
+pub record TakesNext (w : Words) (p a : ℕ) : Type 0 where
+  pub chained : w (p + 1) ≢ 0 → a ≡ w (p + 1)
+  pub fresh : w (p + 1) ≡ 0 → a ≡ w (p + 3)
 
 -- nothing but the heads changes
 pub record IsOnlyHeads (old new : Pages) : Type 0 where

@@ -7,7 +7,7 @@ ghost use Rattle.size_pages.specs.PageWords.{word_in, IsInArenas};
 ghost use Rattle.size_pages.specs.LiveBlocks.{page_at};
 ghost use Rattle.size_pages.specs.HasBlocks.{HasBlocks, HasBlocksBut, Stands, KeepsSizes};
 ghost use Rattle.size_pages.specs.Steps.{CanTakeUnlisted};
-ghost use Rattle.size_pages.specs.Growth.{HasUnused, AllUsed, IsLowestUnused, IsRaised, IsOnlyCounts, IsOnlyOrder, CanList, ListsPages, AddsPages, BeginsPage};
+ghost use Rattle.size_pages.specs.Growth.{HasUnused, AllUsed, IsLowestUnused, IsRaised, IsOnlyCounts, IsOnlyOrder, CanList, ListsPages, AddsPages, IsEmptyPage, BeginsPage};
 
 use crate::blocks::{UNUSED, start_class};
 use crate::words::load;
@@ -56,6 +56,7 @@ impl Pages {
         ensures started { (live : List Extent) (waiting : List ℕ) → HasBlocks self.old space.old live waiting → HasBlocksBut self.new space.new live waiting result 0 }
         ensures lowest { IsLowestUnused (word_in space.old) self.old.page self.old.count result }
         ensures kept { (live : List Extent) (waiting : List ℕ) → HasBlocks self.old space.old live waiting → KeepsWords space.old space.new live }
+        ensures empty { IsEmptyPage (word_in space.new) result }
         ensures counts { IsOnlyCounts self.old self.new }
         ensures arenas { IsInArenas space.old space.new }
     {

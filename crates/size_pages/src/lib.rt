@@ -10,8 +10,8 @@ ghost use Rattle.std.specs.Prelude.{◌≡◌, ℕ, ◌+◌, ◌*◌, ◌<◌, �
 ghost use Rattle.heap_space.specs.Memory.{Memory};
 ghost use Rattle.heap_space.specs.Extents.{Extent, KeepsWords, KeepsOutside};
 ghost use Rattle.size_pages.specs.PageWords.{word_in, IsInArenas};
-ghost use Rattle.size_pages.specs.HasBlocks.{HasBlocks, Stands, IsLive, KeepsSizes};
-ghost use Rattle.size_pages.specs.Calls.{page_of, IsInNone, TakesFrom, AddsArena, ChangesAround};
+ghost use Rattle.size_pages.specs.HasBlocks.{HasBlocks, Stands, IsLive, KeepsSizes, page_size, arena_pages, greatest_block, page_count};
+ghost use Rattle.size_pages.specs.Calls.{page_of, IsInNone, TakesFrom, TakesFirst, AddsArena, ChangesAround};
 
 mod blocks;
 mod gathering;
@@ -57,7 +57,7 @@ pub struct Pages {
 }
 
 impl Pages {
-    /// No page and no live block. It takes no memory.
+    /// No page and no live block. It does not allocate.
     ///
     /// A page is to have so many words, an arena so many pages, and no block more words than `small`.
     pub fn new(alloc: Global, page: u64, pages_per_arena: u64, small: u64) -> Pages
@@ -65,9 +65,9 @@ impl Pages {
         requires arena { (1 ≤ pages_per_arena) × (pages_per_arena ≤ 1024) }
         requires small { (2 ≤ small) × (small + 8 ≤ page) }
         ensures empty { (m : Memory) → m.next_arena ≡ 4294967296 → m.arena_words ≡ page * pages_per_arena → HasBlocks result m [] [] }
-        ensures page { result.page ≡ page }
-        ensures arena { result.pages_per_arena ≡ pages_per_arena }
-        ensures small { result.small ≡ small }
+        ensures page { page_size result ≡ page }
+        ensures arena { arena_pages result ≡ pages_per_arena }
+        ensures small { greatest_block result ≡ small }
     {
         Pages {
             page,
@@ -84,16 +84,18 @@ impl Pages {
     /// Takes a block of n words, whose word 0 is 0.
     ///
     /// A page of blocks of n words that has room gives it, where one does not wait, and else the
-    /// lowest unused page is begun, and before that an arena added where none is unused. The error
-    /// is want of memory alone. It leaves everything as it was.
+    /// lowest unused page is begun, and before that an arena added where none is unused. Of its page
+    /// it is the first block of the chain, and where none is chained the first that was never handed
+    /// out. The only error is out of memory. It leaves everything as it was.
     pub fn take(&mut self, space: &mut Space, n: u64) -> Result<u64, AllocError>
         requires stands { Stands self.old space.old }
-        requires n { (2 ≤ n) × (n ≤ self.old.small) }
+        requires n { (2 ≤ n) × (n ≤ greatest_block self.old) }
         ensures taken { (live : List Extent) (waiting : List ℕ) → HasBlocks self.old space.old live waiting → IfOk result (λ a. HasBlocks self.new space.new ((a, n) ∷ live) waiting) }
         ensures cleared { IfOk result (λ a. word_in space.new a ≡ 0) }
-        ensures elsewhere { (live : List Extent) (waiting : List ℕ) → HasBlocks self.old space.old live waiting → IfOk result (IsInNone self.old.page waiting) }
-        ensures from { IfOk result (λ a. TakesFrom (word_in space.old) self.old.page self.old.count n (page_of self.old.page a)) }
-        ensures arena { OnOk result (AddsArena (word_in space.old) self.old.page self.old.count n space.old space.new) }
+        ensures elsewhere { (live : List Extent) (waiting : List ℕ) → HasBlocks self.old space.old live waiting → IfOk result (IsInNone (page_size self.old) waiting) }
+        ensures from { IfOk result (λ a. TakesFrom (word_in space.old) (page_size self.old) (page_count self.old) n (page_of (page_size self.old) a)) }
+        ensures first { IfOk result (λ a. TakesFirst (word_in space.old) (page_of (page_size self.old) a) a) }
+        ensures arena { OnOk result (AddsArena (word_in space.old) (page_size self.old) (page_count self.old) n space.old space.new) }
         ensures kept { (live : List Extent) (waiting : List ℕ) → HasBlocks self.old space.old live waiting → KeepsWords space.old space.new live }
         ensures outside { KeepsOutside 4294967296 1099511627776 space.old space.new }
         ensures arena_words { space.new.arena_words ≡ space.old.arena_words }
@@ -113,14 +115,14 @@ impl Pages {
         Ok(self.take_unlisted(space, page, n))
     }
 
-    /// Takes the block, of n words at a, off the live ones. It takes no memory.
+    /// Takes the block, of n words at a, off the live ones. It does not allocate.
     ///
     /// A waiting page stays so. Another page is unused at once where its last live block goes.
     pub fn give_back(&mut self, space: &mut Space, a: u64, n: u64)
         requires { IsLive self.old space.old (a, n) }
         ensures given { (live : List Extent) (waiting : List ℕ) → HasBlocks self.old space.old ((a, n) ∷ live) waiting → HasBlocks self.new space.new live waiting }
         ensures kept { (live : List Extent) (waiting : List ℕ) → HasBlocks self.old space.old ((a, n) ∷ live) waiting → KeepsWords space.old space.new live }
-        ensures around { ChangesAround (word_in space.old) (word_in space.new) self.old.page self.old.count (page_of self.old.page a) a }
+        ensures around { ChangesAround (word_in space.old) (word_in space.new) (page_size self.old) (page_count self.old) (page_of (page_size self.old) a) a }
         ensures arenas { IsInArenas space.old space.new }
         ensures stands { Stands self.new space.new }
         ensures sizes { KeepsSizes self.old self.new }

@@ -14,8 +14,8 @@ use std::alloc::AllocError;
 impl Pages {
     /// Appends the live blocks, each its place and its words, by rising place.
     ///
-    /// Word 0 of each live block is to be a header without the flag Free. The error is want of
-    /// memory alone. What `out` held stands before it then, and what stands behind that is not said.
+    /// Word 0 of each live block is to be a header without the flag Free. The only error is out of
+    /// memory. What `out` held stands before it then, and what stands behind that is not said.
     pub fn live_blocks(&self, space: &Space, out: &mut Vec<(u64, u64)>) -> Result<(), AllocError>
         requires { StandsWithHeaders self.now space.now }
         ensures listed { (live : List Extent) (waiting : List ℕ) → HasHeaders self.now space.now live waiting → OnOk result (AppendsLive out.old.items out.new.items live) }

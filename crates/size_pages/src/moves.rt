@@ -5,7 +5,7 @@ ghost use Rattle.heap_space.specs.Extents.{Extent, KeepsWords};
 ghost use Rattle.size_pages.specs.PageWords.{word_in, IsInArenas};
 ghost use Rattle.size_pages.specs.PageLists.{IsPage, SameSigns, Unlinks, Links};
 ghost use Rattle.size_pages.specs.HasBlocks.{HasBlocks, HasBlocksBut, KeepsSizes};
-ghost use Rattle.size_pages.specs.Steps.{IsOnlyHeads, CanTakeOff, CanPutOn, CanEnd, CanGiveFull, CanTakeUnlisted};
+ghost use Rattle.size_pages.specs.Steps.{TakesNext, IsOnlyHeads, CanTakeOff, CanPutOn, CanEnd, CanGiveFull, CanTakeUnlisted};
 ghost use Rattle.size_pages.specs.Growth.{IsLowered};
 ghost use Rattle.size_pages.specs.Calls.{page_of, ChangesAround};
 
@@ -55,6 +55,7 @@ impl Pages {
         ensures cleared { word_in space.new result ≡ 0 }
         ensures place { (page + 8 ≤ result) × (result + n ≤ page + self.old.page) }
         ensures page { page ≡ page_of self.old.page result }
+        ensures next { TakesNext (word_in space.old) page result }
         ensures heads { IsOnlyHeads self.old self.new }
         ensures arenas { IsInArenas space.old space.new }
     {

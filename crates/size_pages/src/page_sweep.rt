@@ -3,7 +3,7 @@
 ghost use Rattle.std.specs.Prelude.{◌≡◌, ℕ, ◌+◌, ◌-◌, ◌/◌, ◌<◌, ◌≤◌, ◌∷◌, List, OnOk, OnErr};
 ghost use Rattle.heap_space.specs.Extents.{Extent};
 ghost use Rattle.size_pages.specs.PageWords.{word_in, HasAll, IsInArenas};
-ghost use Rattle.size_pages.specs.HasBlocks.{HasBlocks, HasBlocksBut, Stands, KeepsSizes};
+ghost use Rattle.size_pages.specs.HasBlocks.{page_size, HasBlocks, HasBlocksBut, Stands, KeepsSizes};
 ghost use Rattle.size_pages.specs.PageLists.{SameSigns, Unlinks};
 ghost use Rattle.size_pages.specs.Headers.{HasHeaders};
 ghost use Rattle.size_pages.specs.SweepSteps.{IsOnlyLists};
@@ -40,11 +40,11 @@ impl Pages {
     /// appended, and their blocks given back. The others lose the flag Visited, and reserved homes
     /// are passed over. The page, which does not wait any more, is unused where nothing is left.
     ///
-    /// Word 0 of each live block is to be a header without the flag Free. The error is want of
-    /// memory alone, and leaves everything as it was.
+    /// Word 0 of each live block is to be a header without the flag Free. The only error is out of
+    /// memory, and leaves everything as it was.
     pub fn sweep_page(&mut self, space: &mut Space, freed: &mut Vec<u64>) -> Result<(), AllocError>
         requires { CanSweep self.old space.old }
-        ensures swept { (live : List Extent) (page : ℕ) (rest : List ℕ) → HasHeaders self.old space.old live (page ∷ rest) → OnOk result (SweepsPage self.new space.old space.new self.old.page live page rest freed.old.items freed.new.items) }
+        ensures swept { (live : List Extent) (page : ℕ) (rest : List ℕ) → HasHeaders self.old space.old live (page ∷ rest) → OnOk result (SweepsPage self.new space.old space.new (page_size self.old) live page rest freed.old.items freed.new.items) }
         ensures err { OnErr result (self.new ≡ self.old) }
         ensures err_space { OnErr result (space.new ≡ space.old) }
         ensures err_freed { OnErr result (freed.new.items ≡ freed.old.items) }

@@ -4,7 +4,7 @@ ghost use Rattle.std.specs.Prelude.{◌≡◌, ◌≢◌, ℕ, ◌+◌, ◌*◌,
 ghost use Rattle.heap_space.specs.Extents.{Extent, KeepsWords};
 ghost use Rattle.size_pages.specs.PageWords.{word_in, IsInArenas};
 ghost use Rattle.size_pages.specs.PageLists.{EachPlace, IsIn, Links};
-ghost use Rattle.size_pages.specs.HasBlocks.{HasBlocks, HasBlocksBut, Stands, KeepsSizes};
+ghost use Rattle.size_pages.specs.HasBlocks.{HasBlocks, HasBlocksBut, Stands, KeepsSizes, page_size};
 ghost use Rattle.size_pages.specs.Calls.{page_of, BeginsLive, NoneWaits, BeginsSweep};
 ghost use Rattle.size_pages.specs.SweepSteps.{CanWait, CanPutWaiting, WaitsMore};
 
@@ -15,15 +15,15 @@ use crate::words::load;
 use heap_space::Space;
 
 impl Pages {
-    /// Whether the page of the live block at a waits. It takes no memory.
+    /// Whether the page of the live block at a waits. It does not allocate.
     pub fn waits(&self, space: &Space, a: u64) -> bool
         requires { BeginsLive self.now space.now a }
-        ensures { (live : List Extent) (waiting : List ℕ) → HasBlocks self.now space.now live waiting → IsTrue result ↔ IsIn (page_of self.now.page a) waiting }
+        ensures { (live : List Extent) (waiting : List ℕ) → HasBlocks self.now space.now live waiting → IsTrue result ↔ IsIn (page_of (page_size self.now) a) waiting }
     {
         load(space, self.page_of(a) + 6) == WAITING
     }
 
-    /// Every page in use waits from then on. It takes no memory, and looks at no unused page.
+    /// Every page in use waits from then on. It does not allocate, and looks at no unused page.
     pub fn begin_sweep(&mut self, space: &mut Space)
         requires { NoneWaits self.old space.old }
         ensures begun { (live : List Extent) → HasBlocks self.old space.old live [] → BeginsSweep self.new space.new live }

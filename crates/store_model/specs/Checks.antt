@@ -1,13 +1,12 @@
 -- Checks that refuse a line, each over just what it looks at.
-use Rattle.std.specs.Prelude.{ℕ, ◌+◌, ◌≤◌, Bool, true, ◌&&◌, ◌||◌, not, nat_lt, nat_le, is_some, is_none, List, [], ◌∷◌, Option, Some, None, slice_get, if◌then◌else◌}
+use Rattle.std.specs.Prelude.{ℕ, Bool, ◌&&◌, ◌||◌, not, nat_lt, nat_le, is_some, is_none, List, [], ◌∷◌, Option, Some, None, slice_get, if◌then◌else◌}
 use Rattle.type_table.specs.declared.info.Shape.{Shape}
 use Rattle.type_table.specs.declared.info.TypeInfo.{TypeInfo}
-use Rattle.type_table.specs.Words.{words_in}
-use Rattle.store_model.specs.declared.item.Reason.{Reason}
-use Rattle.store_model.specs.declared.item.Reason.TheVariants.{NotBuilt, Late, SetTwice, SetRange, TypeTwice, TooManyTypes, NoRoot, NilRoot, NoType, WrongShape, NoItem}
-use Rattle.store_model.specs.declared.kind.Kind.{Kind}
-use Rattle.store_model.specs.declared.settings.Settings.{Settings}
-use Rattle.store_model.specs.Shapes.{has_shape, ints_in, refs_in, has_ints, has_refs}
+use Rattle.text_model.specs.declared.item.Reason.{Reason}
+use Rattle.text_model.specs.declared.item.Reason.TheVariants.{Late, SetTwice, SetRange, TypeTwice, TooManyTypes, NoRoot, NilRoot, NoType, WrongShape, NoItem}
+use Rattle.object_model.specs.declared.kind.Kind.{Kind}
+use Rattle.object_model.specs.SettingRanges.{ranges, is_outside}
+use Rattle.object_model.specs.Shapes.{has_shape, ints_in, refs_in, has_ints, has_refs}
 
 -- checks in their order, each with the reason that it gives where it holds
 abbrev pub Checks : Type 0
@@ -18,41 +17,13 @@ abbrev pub first_reason : Checks → Option Reason
 first_reason [] = None
 first_reason (check ∷ checks) = if check.0 then Some check.1 else first_reason checks
 
--- the least and the greatest value of each setting, in their order
-abbrev pub ranges : List (ℕ × ℕ)
-ranges =
-    (16, 1048576) ∷ (8, 1048576) ∷ (64, 16777216) ∷ (1, 1048576) ∷ (1, 16777216) ∷ (1, 65536) ∷ (0, 1024) ∷ (64, 8192) ∷ (1, 1024)
-    ∷ (2, 4096) ∷ (1, 65536) ∷ (1, 65536) ∷ (1, 256) ∷ []
-
--- whether the value lies outside the range, if there is one
-abbrev pub is_outside : Option (ℕ × ℕ) → ℕ → Bool
-is_outside None value = true
-is_outside (Some range) value = nat_lt value range.0 || nat_lt range.1 value
-
--- each value lies in its range
-abbrev pub AreWithin : List (ℕ × ℕ) → List ℕ → Type 0
-AreWithin [] values = Unit {0}
-AreWithin (range ∷ ranges) [] = ⊥
-AreWithin (range ∷ ranges) (value ∷ values) = (range.0 ≤ value) × (value ≤ range.1) × AreWithin ranges values
-
--- the values of the settings, in their order
-abbrev pub values_of : Settings → List ℕ
-values_of settings =
-    settings.nursery ∷ settings.young ∷ settings.limit ∷ settings.increment ∷ settings.minimum ∷ settings.sweep ∷ settings.pins ∷ settings.page
-    ∷ settings.arena ∷ settings.small ∷ settings.card ∷ settings.roots ∷ settings.queues ∷ []
-
--- each setting lies in its range
-abbrev pub AreInRange : Settings → Type 0
-AreInRange settings = AreWithin ranges (values_of settings)
-
 -- of a setting: whether a command came, whether its name was set, its number and its value
 abbrev pub setting_checks : Bool → Bool → ℕ → ℕ → Checks
 setting_checks late is_set name value = (late, Late) ∷ (is_set, SetTwice) ∷ (is_outside (slice_get ranges name) value, SetRange) ∷ []
 
--- of a type: whether it has a destructor, whether a command came, the type of that id, and how many types there are
-abbrev pub type_checks : Bool → Bool → Option TypeInfo → ℕ → Checks
-type_checks destructor late known count =
-    (destructor, NotBuilt) ∷ (late, Late) ∷ (is_some known, TypeTwice) ∷ (nat_le 4096 count, TooManyTypes) ∷ []
+-- of a type: whether a command came, the type of that id, and how many types there are
+abbrev pub type_checks : Bool → Option TypeInfo → ℕ → Checks
+type_checks late known count = (late, Late) ∷ (is_some known, TypeTwice) ∷ (nat_le 4096 count, TooManyTypes) ∷ []
 
 -- of the slots that a command names: how many there are
 abbrev pub slots_checks : ℕ → List ℕ → Checks
@@ -66,16 +37,6 @@ found_checks found = (is_none found, NilRoot) ∷ []
 -- of the type of a birth, whose shape must pass the test
 abbrev pub born_checks : Option TypeInfo → (Shape → Bool) → Checks
 born_checks info test = (is_none info, NoType) ∷ (not (has_shape test info), WrongShape) ∷ []
-
--- the words of an object of a type that may be there
-abbrev pub type_words : Option TypeInfo → ℕ → ℕ
-type_words None items = 0
-type_words (Some info) items = words_in info.shape items
-
--- Of a birth of so many words, where so many unsettled, fresh and kept words are there: collections are not built yet.
-abbrev pub room_checks : Settings → ℕ → ℕ → ℕ → ℕ → Checks
-room_checks settings words unsettled fresh kept =
-    (nat_lt settings.nursery (unsettled + fresh + words), NotBuilt) ∷ (nat_lt settings.limit (kept + words), NotBuilt) ∷ []
 
 -- of the use of a whole number: what is in the slot, and the item
 abbrev pub int_checks : Option Kind → ℕ → Checks

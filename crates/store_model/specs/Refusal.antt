@@ -1,18 +1,18 @@
 -- The first reason for which an item is refused where a script stands, if there is one.
-use Rattle.std.specs.Prelude.{ℕ, ◌+◌, Bool, true, false, List, [], ◌∷◌, ◌++◌, Option, None, length}
+use Rattle.std.specs.Prelude.{ℕ, ◌+◌, Bool, List, [], ◌∷◌, ◌++◌, Option, None, length}
 use Rattle.type_table.specs.Table.{value_at}
-use Rattle.store_model.specs.declared.command.Command.{Command}
-use Rattle.store_model.specs.declared.command.Command.TheVariants.{NewFixed, NewArray, NewWeak, Put, Get, Link, Load, CopyRefs, MoveRoot, DropRoot, Same, Ident, Hash, Place, Pin, Unpin, Deref, Register, NextFinal, MakeLink, Inc, Dec, Count, FromObj, ToObj, NextDead, Minor, Step, Collect, Used}
-use Rattle.store_model.specs.declared.item.Item.{Item}
-use Rattle.store_model.specs.declared.item.Item.TheVariants.{Blank, Setting, TypeDef, Command as CommandItem}
-use Rattle.store_model.specs.declared.item.Reason.{Reason}
-use Rattle.store_model.specs.declared.item.Reason.TheVariants.{NotBuilt, Range}
-use Rattle.store_model.specs.Sets.{is_in}
-use Rattle.store_model.specs.Setup.{Setup, type_at}
+use Rattle.text_model.specs.declared.command.Command.{Command}
+use Rattle.text_model.specs.declared.command.Command.TheVariants.{NewFixed, NewArray, NewWeak, Put, Get, Link, Load, CopyRefs, MoveRoot, DropRoot, Same, Ident, Hash, Place, Pin, Unpin, Deref, Register, NextFinal, MakeLink, Inc, Dec, Count, FromObj, ToObj, NextDead, Minor, Step, Collect, Used}
+use Rattle.text_model.specs.declared.item.Item.{Item}
+use Rattle.text_model.specs.declared.item.Item.TheVariants.{Blank, Setting, TypeDef, Command as CommandItem}
+use Rattle.text_model.specs.declared.item.Reason.{Reason}
+use Rattle.text_model.specs.declared.item.Reason.TheVariants.{Range}
+use Rattle.object_model.specs.Sets.{is_in}
+use Rattle.object_model.specs.Setup.{Setup, type_at}
 use Rattle.store_model.specs.Look.{Look, look}
-use Rattle.store_model.specs.Shapes.{is_fixed_shape, is_array_shape, is_weak_shape}
-use Rattle.store_model.specs.Range.{is_above}
-use Rattle.store_model.specs.Checks.{Checks, first_reason, setting_checks, type_checks, slots_checks, found_checks, born_checks, type_words, room_checks, int_checks, ref_checks, copy_checks}
+use Rattle.object_model.specs.Shapes.{is_fixed_shape, is_array_shape, is_weak_shape}
+use Rattle.text_model.specs.Range.{is_above}
+use Rattle.store_model.specs.Checks.{Checks, first_reason, setting_checks, type_checks, slots_checks, found_checks, born_checks, int_checks, ref_checks, copy_checks}
 use Rattle.store_model.specs.StructChecks.{weak_checks, unpin_checks, queue_checks, register_checks, link_checks, struct_checks, inc_checks, dec_checks}
 use Rattle.store_model.specs.Progress.{Progress}
 
@@ -48,20 +48,6 @@ slots_of Minor = []
 slots_of Step = []
 slots_of Collect = []
 slots_of Used = []
-
--- whether the program does not do the command yet
-abbrev pub is_unbuilt : Command → Bool
-is_unbuilt (NewFixed root type_id) = false
-is_unbuilt (NewArray root type_id len) = false
-is_unbuilt (Put root item value) = false
-is_unbuilt (Get root item) = false
-is_unbuilt (Link root item from) = false
-is_unbuilt (Load to root item) = false
-is_unbuilt (MoveRoot to from) = false
-is_unbuilt (DropRoot root) = false
-is_unbuilt (Same a b) = false
-is_unbuilt Used = false
-is_unbuilt command = true
 
 -- the checks on what the slots and numbers of a command lead to
 abbrev pub further_checks : Setup → Look → Command → Checks
@@ -103,19 +89,9 @@ further_checks setup seen Step = []
 further_checks setup seen Collect = []
 further_checks setup seen Used = []
 
--- the checks on words, which are the last
-abbrev pub words_checks : Setup → Look → Command → Checks
-words_checks setup seen (NewFixed root type_id) =
-    room_checks setup.settings (type_words (type_at setup type_id) 0) seen.unsettled seen.fresh seen.kept
-words_checks setup seen (NewArray root type_id len) =
-    room_checks setup.settings (type_words (type_at setup type_id) len) seen.unsettled seen.fresh seen.kept
-words_checks setup seen command = []
-
 -- the checks of a command none of whose numbers is out of range, in order
 abbrev pub checks_in_range : Setup → Look → Command → Checks
-checks_in_range setup seen command =
-    (is_unbuilt command, NotBuilt)
-    ∷ (slots_checks setup.settings.roots (slots_of command) ++ (further_checks setup seen command ++ words_checks setup seen command))
+checks_in_range setup seen command = slots_checks setup.settings.roots (slots_of command) ++ further_checks setup seen command
 
 -- all checks of a command, in order
 abbrev pub command_checks : Setup → Look → Command → Checks
@@ -126,7 +102,7 @@ unfoldable pub refusal_seen : Setup → List ℕ → Bool → Look → Item → 
 refusal_seen setup names late seen Blank = None
 refusal_seen setup names late seen (Setting name value) = first_reason (setting_checks late (is_in name names) name value)
 refusal_seen setup names late seen (TypeDef id info) =
-    first_reason (type_checks info.destructor late (value_at setup.types id) (length setup.types))
+    first_reason (type_checks late (value_at setup.types id) (length setup.types))
 refusal_seen setup names late seen (CommandItem command) = first_reason (command_checks setup seen command)
 
 -- why an item is refused where a script stands, if it is

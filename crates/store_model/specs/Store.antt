@@ -1,11 +1,11 @@
 -- The store of unmoving objects: objects by birth, and no places in memory but the homes that were told.
-use Rattle.std.specs.Prelude.{ℕ, ◌+◌, Bool, false, ◌==◌, not, List, [], Option, None, sum_by, find, filter, replicate}
+use Rattle.std.specs.Prelude.{ℕ, ◌+◌, Bool, false, not, List, [], Option, None, sum_by, filter, replicate}
 use Rattle.type_table.specs.Table.{Table}
-use Rattle.store_model.specs.declared.line.Phase.{Phase}
-use Rattle.store_model.specs.declared.line.Phase.TheVariants.{Scanning}
-use Rattle.store_model.specs.declared.settings.Settings.{Settings}
-use Rattle.store_model.specs.Sets.{is_in}
-use Rattle.store_model.specs.Object.{Object, words_of}
+use Rattle.text_model.specs.declared.line.Phase.{Phase}
+use Rattle.text_model.specs.declared.line.Phase.TheVariants.{Scanning}
+use Rattle.object_model.specs.declared.settings.Settings.{Settings}
+use Rattle.object_model.specs.Sets.{is_in}
+use Rattle.object_model.specs.Object.{Object, kept_words}
 
 -- a C structure that is there: linked with the object of a birth by a P link or an O link, unlinked, or pending
 pub data Struct : Type 0 where
@@ -21,20 +21,19 @@ pub record Store : Type 0 where
   pub slots : List (Option ℕ)  -- what each root slot holds
   pub settled : List ℕ  -- the kept objects outside the nursery, by rising birth
   pub homes : Table ℕ  -- the homes that were told
-  pub pinned : List ℕ
+  pub pinned : List (ℕ × ℕ)  -- births of pinned objects, each with how many times it is pinned, in the order of their first pins
   pub registered : List (ℕ × ℕ)  -- births and queues, in order of registration
-  pub ever : List ℕ  -- what was ever registered
   pub chosen : List (ℕ × ℕ)  -- what waits for its queue, in order of registration
   pub queues : Table (List ℕ)  -- the finalizer queues that are not empty
   pub structs : Table Struct  -- the C structures by their numbers
   pub dead : List ℕ  -- the pending structures, the oldest first
-  pub phase : Phase
+  pub phase : Phase  -- of the major collection
   pub threshold : ℕ  -- the old words at which a major step is due
   pub fresh : ℕ  -- the words that were born settled since the last minor collection
   pub gapped : Bool  -- whether some object was pinned when the last minor collection ended
-  pub visited : List ℕ
-  pub unreached : List ℕ
-  pub doomed : List ℕ
+  pub visited : List ℕ  -- the settled objects that marking visited
+  pub unreached : List ℕ  -- the settled objects that no root reached when marking began, and that were not revived
+  pub doomed : List ℕ  -- the objects that were not retained when marking began, and that were not revived
   pub left : ℕ  -- how many sweeping steps may still come
 
 -- the store before the first command
@@ -48,7 +47,6 @@ empty_store settings = record {
   homes = [];
   pinned = [];
   registered = [];
-  ever = [];
   chosen = [];
   queues = [];
   structs = [];
@@ -63,17 +61,9 @@ empty_store settings = record {
   left = 0;
 }
 
--- the object of a birth
-abbrev pub object_at : List Object → ℕ → Option Object
-object_at kept birth = find (λ object. birth == object.birth) kept
-
 -- whether a birth is settled
 abbrev pub is_settled : List ℕ → ℕ → Bool
 is_settled settled birth = is_in birth settled
-
--- the words of all kept objects
-abbrev pub kept_words : List Object → ℕ
-kept_words kept = sum_by words_of kept
 
 -- the words of all husks
 abbrev pub husk_words : List (ℕ × ℕ) → ℕ

@@ -1,13 +1,13 @@
 -- Checks on C structures, pins and finalizers that refuse a command.
-use Rattle.std.specs.Prelude.{ℕ, Bool, true, false, ◌==◌, ◌&&◌, not, nat_le, is_none, List, [], ◌∷◌, Option, Some, None}
+use Rattle.std.specs.Prelude.{ℕ, Bool, true, false, ◌==◌, ◌&&◌, not, nat_le, is_none, [], ◌∷◌, Option, Some, None}
 use Rattle.std.specs.List.{list_any}
 use Rattle.type_table.specs.Table.{Table}
-use Rattle.store_model.specs.declared.item.Reason.TheVariants.{NotPinned, NoQueue, Registered, StructUsed, HasPLink, NoStruct, StructPending, CountFull, CountZero, WrongShape, NilRoot}
-use Rattle.store_model.specs.declared.kind.Kind.{Kind}
-use Rattle.store_model.specs.declared.structure.StructState.{StructState}
-use Rattle.store_model.specs.declared.structure.StructState.TheVariants as state
+use Rattle.text_model.specs.declared.item.Reason.TheVariants.{NotPinned, NoQueue, Registered, StructUsed, HasPLink, NoStruct, StructPending, CountFull, CountZero, WrongShape, NilRoot}
+use Rattle.object_model.specs.declared.kind.Kind.{Kind}
+use Rattle.object_model.specs.declared.structure.StructState.{StructState}
+use Rattle.object_model.specs.declared.structure.StructState.TheVariants as state
 use Rattle.store_model.specs.Store.{Struct, Linked, Unlinked, Pending}
-use Rattle.store_model.specs.Shapes.{is_weak}
+use Rattle.object_model.specs.Shapes.{is_weak}
 use Rattle.store_model.specs.Checks.{Checks}
 
 -- of what a slot holds, which must be a weak object
@@ -22,7 +22,7 @@ unpin_checks pinned = (not pinned, NotPinned) ∷ []
 abbrev pub queue_checks : ℕ → ℕ → Checks
 queue_checks queues queue = (nat_le queues queue, NoQueue) ∷ []
 
--- of the object to be registered: whether it ever was
+-- of the object to be registered: whether it is, or waits
 abbrev pub register_checks : Bool → Checks
 register_checks registered = (registered, Registered) ∷ []
 
@@ -52,6 +52,7 @@ link_checks found p has = (not (is_absent found), StructUsed) ∷ (p && has, Has
 abbrev pub struct_checks : StructState → Checks
 struct_checks found = (is_absent found, NoStruct) ∷ []
 
+-- whether a structure is pending
 abbrev pub is_pending : StructState → Bool
 is_pending state.Absent = false
 is_pending (state.Linked p light own) = false

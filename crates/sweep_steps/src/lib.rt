@@ -29,7 +29,7 @@ pub trait Sweeper {
         ensures { (m : Memory) → stands self.now m → result ≡ left self.now };
 
     /// Sweeps one unit, and appends the births of the objects that it freed. After the error, which
-    /// is want of memory alone, as many units wait as before, and `freed` is as it was.
+    /// is out of memory alone, as many units wait as before, and `freed` is as it was.
     fn sweep_one(&mut self, space: &mut Space, freed: &mut Vec<u64>) -> Result<(), AllocError>
         requires some { 0 < left self.old }
         requires stands { stands self.old space.old }
@@ -51,7 +51,7 @@ pub enum SweepState {
 /// Sweeps so many units, or all that wait where they are fewer, one after the other. The births of
 /// the objects that were freed stand in rising order behind what `freed` held.
 ///
-/// The error is want of memory alone. Some units may have been swept by then.
+/// The only error is out of memory. Some units may have been swept by then.
 pub fn sweep<S: Sweeper>(
     units: u64,
     s: &mut S,

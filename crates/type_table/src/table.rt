@@ -84,7 +84,7 @@ impl TypeTable {
         Ok(())
     }
 
-    /// The descriptor of the id, if it has one. It takes no memory.
+    /// The descriptor of the id, if it has one. It does not allocate.
     pub fn get(&self, id: u16) -> Option<TypeInfo>
         ensures { result ≡ value_at self.now id }
     {

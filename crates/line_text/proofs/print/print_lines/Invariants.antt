@@ -1,5 +1,5 @@
 use Rattle.std.proofs.Common.{◌≡◌, ◌++◌, take}
-use Rattle.store_model.specs.Text.{lines_text}
+use Rattle.text_model.specs.Text.{lines_text}
 use Rattle.line_text.proofs.print.print_lines.Given as goal
 
 -- the lines so far are printed

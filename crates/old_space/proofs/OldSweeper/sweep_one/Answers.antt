@@ -11,7 +11,7 @@ sweep_page-requires c =
 pub returns-then-waiting-gt0-clause-step : goal.returns-then-waiting-gt0-clause-step
 returns-then-waiting-gt0-clause-step c =
     let told = pages-told c.args.self.now _ _ c.requires.stands c.waiting.ensures in let to = c.sweep_page.ensures in
-    page-step c.args.self.now _ _ _ _ _ c.sweep_page.result c.requires.stands (omega (arith, told, c.if-waiting-gt0.true)) to.swept to.arenas to.sizes.small
+    page-step c.args.self.now _ _ _ _ _ c.sweep_page.result c.requires.stands (omega (arith, told, c.if-waiting-gt0.true)) to.swept to.arenas to.sizes
 
 pub returns-then-waiting-gt0-clause-less : goal.returns-then-waiting-gt0-clause-less
 returns-then-waiting-gt0-clause-less c =
@@ -22,7 +22,7 @@ pub returns-then-waiting-gt0-clause-stands : goal.returns-then-waiting-gt0-claus
 returns-then-waiting-gt0-clause-stands c =
     let told = pages-told c.args.self.now _ _ c.requires.stands c.waiting.ensures in let to = c.sweep_page.ensures in
     stands-either c.args.self.now _ _ _ _ _ c.sweep_page.result c.requires.stands c.requires.some
-    (page-step c.args.self.now _ _ _ _ _ c.sweep_page.result c.requires.stands (omega (arith, told, c.if-waiting-gt0.true)) to.swept to.arenas to.sizes.small)
+    (page-step c.args.self.now _ _ _ _ _ c.sweep_page.result c.requires.stands (omega (arith, told, c.if-waiting-gt0.true)) to.swept to.arenas to.sizes)
     (page-error _ _ c.sweep_page.result to.err) to.err_space
 
 pub sweep_block-requires-clause-some : goal.sweep_block-requires-clause-some

@@ -1,6 +1,6 @@
 use Rattle.std.proofs.Common.{◌++◌, ap, sym, subst, ◌∙◌}
 use Rattle.std.specs.List.Sorted.{IsStrictlyIncreasing}
-use Rattle.store_model.specs.Sets.{is_in}
+use Rattle.object_model.specs.Sets.{is_in}
 use Rattle.store_model.specs.Links.{newly_dead, link_ends}
 use Rattle.rawref_links.specs.Cuts.{ends_of}
 use Rattle.rawref_links.proofs.CutTies.{all_listed, ends-told, structs-cut, tied-cut}

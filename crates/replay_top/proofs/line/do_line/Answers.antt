@@ -1,39 +1,64 @@
-use Rattle.std.proofs.Common.{ℕ, List, ◌++◌, refl, ap, sym, subst, ◌∙◌}
-use Rattle.std.specs.Io.KnownBytes.{Appends}
-use Rattle.store_model.specs.Text.{lines_text}
-use Rattle.replay_top.specs.Written.{WritesPart}
-use Rattle.std.proofs.KnownBytes.{Keeps-refl}
+use Rattle.std.proofs.Common.{List, Err, refl, sym, subst}
 use Rattle.std.specs.Prelude.{All}
-use Rattle.store_model.specs.declared.line.Line.{Line}
-use Rattle.store_model.specs.Text.{IsProper}
-use Rattle.replay_top.proofs.LineEnds.{refused_by_form, line_refused, line_done, line_cut, lines_proper}
+use Rattle.std.specs.Io.KnownBytes.{Appends}
+use Rattle.std.proofs.KnownBytes.{Keeps-refl}
+use Rattle.text_model.specs.declared.line.Line.{Line}
+use Rattle.text_model.specs.Text.{IsProper, lines_text}
+use Rattle.replay_top.specs.Written.{WritesLines}
+use Rattle.replay_top.proofs.LineEnds.{refused_by_form, says_item, line_refused, line_done, line_exceeds, line_exceeds_cut, lines_proper, lines_proper_at_limit}
 use Rattle.replay_top.proofs.line.do_line.Goals as goal
 
 pub returns-in-Err-clause-ends : goal.returns-in-Err-clause-ends
 returns-in-Err-clause-ends g c = λ p at. (refl, refused_by_form p c.args.number c.args.line.now c.in-Err.bad c.bad_reason.result c.requires.number c.requires.line (sym c.in-Err.ensures.reading) c.bad_reason.ensures, Keeps-refl (g.K.Sink.written c.args.out.now), at)
 
-pub returns-in-Err-item-clause-ends : goal.returns-in-Err-item-clause-ends
-returns-in-Err-item-clause-ends g c = λ p at.
-    line_refused p c.args.number c.args.line.now c.in-Ok.item c.new-lines.result.items c.item.new.out.items c.in-Err-item.fault c.stop_of.result (g.K.Sink.written c.args.out.now) c.item.new.self c.item.new.heap
-    c.requires.number c.requires.line (sym c.in-Ok.ensures.reading) c.stop_of.ensures c.new-lines.ensures.items (c.in-Err-item.ensures.answers p at)
-
-pub returns-in-Ok-write_all-clause-ends : goal.returns-in-Ok-write_all-clause-ends
-returns-in-Ok-write_all-clause-ends g c = λ p at.
-    let done = c.in-Ok-item.ensures.answers p at in
-    line_done p c.args.number c.args.line.now c.in-Ok.item c.new-lines.result.items c.item.new.out.items c.print_lines.new.out.items (g.K.Sink.written c.args.out.now) (g.K.Sink.written c.write_all.new.out) c.item.new.self c.item.new.heap
-    c.requires.number c.requires.line (sym c.in-Ok.ensures.reading) c.new-lines.ensures.items done (c.in_ok-print_lines.ensures.ok ∙ ap (λ x. x ++ lines_text c.deref.result.now) c.new-text.ensures.items ∙ ap lines_text c.deref.ensures.value)
-    (let P : List ℕ → Type 0 = Appends (g.K.Sink.written c.args.out.now) (g.K.Sink.written c.write_all.new.out) in subst P c.deref-2.ensures.value c.in-Ok-write_all.ensures.writes)
-
-pub returns-clause-ends : goal.returns-clause-ends
-returns-clause-ends g c = λ p at.
-    let done = c.in-Ok-item.ensures.answers p at in
-    line_cut p c.args.number c.args.line.now c.in-Ok.item c.new-lines.result.items c.item.new.out.items c.print_lines.new.out.items (g.K.Sink.written c.args.out.now) (g.K.Sink.written c.write_all.new.out) c.item.new.self c.item.new.heap
-    c.requires.number c.requires.line (sym c.in-Ok.ensures.reading) c.new-lines.ensures.items done (c.in_ok-print_lines.ensures.ok ∙ ap (λ x. x ++ lines_text c.deref.result.now) c.new-text.ensures.items ∙ ap lines_text c.deref.ensures.value)
-    (let P : List ℕ → Type 0 = WritesPart (g.K.Sink.written c.args.out.now) (g.K.Sink.written c.write_all.new.out) in subst P c.deref-2.ensures.value c.in-Err-write_all.ensures.writes)
-
-pub print_lines-requires : goal.print_lines-requires
-print_lines-requires g c =
+pub write_lines-requires : goal.write_lines-requires
+write_lines-requires g c =
     let placed = c.requires.placed in
     subst (λ (l : List Line). All IsProper l) (sym c.deref.ensures.value)
-    (lines_proper placed.at c.in-Ok.item c.new-lines.result.items c.item.new.out.items c.item.new.self c.item.new.heap c.new-lines.ensures.items
-    (c.in-Ok-item.ensures.answers placed.at placed.stands))
+    (lines_proper placed.at c.in-Ok.item c.clear.new.self.items c.item.new.out.items c.args.session.now c.item.new.self c.args.heap.now c.item.new.heap
+    placed.stands c.clear.ensures.items (c.in-Ok-item.ensures.answers placed.at placed.stands))
+
+pub write_lines-requires-in-Err-HeapLimit : goal.write_lines-requires-in-Err-HeapLimit
+write_lines-requires-in-Err-HeapLimit g c =
+    let placed = c.requires.placed in
+    let answer = rw c.in-Err-HeapLimit.field-0-is at c.in-Err-HeapLimit.ensures.answers placed.at placed.stands in
+    subst (λ (l : List Line). All IsProper l) (sym c.deref-in-Err-HeapLimit.ensures.value)
+    (lines_proper_at_limit placed.at c.in-Ok.item c.in-Err-HeapLimit.counted c.in-Err-HeapLimit.request c.in-Err-HeapLimit.limit
+    c.clear.new.self.items c.item.new.out.items c.args.session.now c.item.new.self c.args.heap.now c.item.new.heap
+    placed.stands c.clear.ensures.items answer)
+
+pub returns-in-Ok-item-clause-ends : goal.returns-in-Ok-item-clause-ends
+returns-in-Ok-item-clause-ends g c = λ p at.
+    let before = g.K.Sink.written c.args.out.now in
+    let after = g.K.Sink.written c.write_lines.new.out in
+    line_done p c.args.number c.args.line.now c.in-Ok.item c.clear.new.self.items c.item.new.out.items before after c.item.new.self c.item.new.heap c.write_lines.result
+    (says_item c.args.number c.args.line.now c.in-Ok.item c.requires.number c.requires.line (sym c.in-Ok.ensures.reading)) c.clear.ensures.items
+    (c.in-Ok-item.ensures.answers p at)
+    (subst (λ (l : List Line). WritesLines l before after c.write_lines.result) c.deref.ensures.value c.write_lines.ensures.ends)
+
+pub returns-in-Ok-write_lines-clause-ends : goal.returns-in-Ok-write_lines-clause-ends
+returns-in-Ok-write_lines-clause-ends g c = λ p at.
+    let before = g.K.Sink.written c.args.out.now in
+    let after = g.K.Sink.written c.write_lines-in-Err-HeapLimit.new.out in
+    let answer = rw c.in-Err-HeapLimit.field-0-is at c.in-Err-HeapLimit.ensures.answers p at in
+    line_exceeds p c.args.number c.args.line.now c.in-Ok.item c.in-Err-HeapLimit.counted c.in-Err-HeapLimit.request c.in-Err-HeapLimit.limit
+    c.clear.new.self.items c.item.new.out.items before after c.item.new.self c.item.new.heap
+    (says_item c.args.number c.args.line.now c.in-Ok.item c.requires.number c.requires.line (sym c.in-Ok.ensures.reading)) c.clear.ensures.items answer
+    (subst (λ (l : List Line). Appends before after (lines_text l)) c.deref-in-Err-HeapLimit.ensures.value c.in-Ok-write_lines.ensures.ends)
+
+pub returns-in-Err-write_lines-clause-ends : goal.returns-in-Err-write_lines-clause-ends
+returns-in-Err-write_lines-clause-ends g c = λ p at.
+    let before = g.K.Sink.written c.args.out.now in
+    let after = g.K.Sink.written c.write_lines-in-Err-HeapLimit.new.out in
+    let answer = rw c.in-Err-HeapLimit.field-0-is at c.in-Err-HeapLimit.ensures.answers p at in
+    line_exceeds_cut p c.args.number c.args.line.now c.in-Ok.item c.in-Err-HeapLimit.counted c.in-Err-HeapLimit.request c.in-Err-HeapLimit.limit
+    c.clear.new.self.items c.item.new.out.items before after c.item.new.self c.item.new.heap c.in-Err-write_lines.stop
+    (says_item c.args.number c.args.line.now c.in-Ok.item c.requires.number c.requires.line (sym c.in-Ok.ensures.reading)) c.clear.ensures.items answer
+    (subst (λ (l : List Line). WritesLines l before after (Err c.in-Err-write_lines.stop)) c.deref-in-Err-HeapLimit.ensures.value c.in-Err-write_lines.ensures.ends)
+
+pub returns-in-Err-Malformed-clause-ends : goal.returns-in-Err-Malformed-clause-ends
+returns-in-Err-Malformed-clause-ends g c = λ p at.
+    let answer = rw c.in-Err-Malformed.field-0-is at c.in-Err-Malformed.ensures.answers p at in
+    line_refused p c.args.number c.args.line.now c.in-Ok.item c.clear.new.self.items c.item.new.out.items c.in-Err-Malformed.reason
+    (g.K.Sink.written c.args.out.now) c.item.new.self c.item.new.heap
+    (says_item c.args.number c.args.line.now c.in-Ok.item c.requires.number c.requires.line (sym c.in-Ok.ensures.reading)) answer

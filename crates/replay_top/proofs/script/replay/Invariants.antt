@@ -2,8 +2,8 @@ use Rattle.std.proofs.Common.{◌≤◌, ◌-◌}
 use Rattle.replay_top.proofs.RunsOn.{RunsOn}
 use Rattle.replay_top.proofs.script.replay.Given as goal
 
-abbrev pub invariant-lines : goal.invariant-lines
-invariant-lines g l =
+abbrev pub invariant-script : goal.invariant-script
+invariant-script g l =
     let files = g.F.Files in
     let sink = g.K.Sink in
     record {
@@ -13,5 +13,5 @@ invariant-lines g l =
       write_later : sink.faults l.fn.out ≤ sink.faults l.out;
     }
 
-abbrev pub decreases-lines : goal.decreases-lines
-decreases-lines g l = 16000000 - l.number
+abbrev pub decreases-script : goal.decreases-script
+decreases-script g l = 16000000 - l.number

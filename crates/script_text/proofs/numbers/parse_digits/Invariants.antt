@@ -1,5 +1,5 @@
 use Rattle.std.proofs.Common.{◌≡◌, ◌+◌, ◌*◌, ◌^◌, ◌<◌, drop, length}
-use Rattle.store_model.specs.Numbers.{value_of, all_digits}
+use Rattle.text_model.specs.Numbers.{value_of, all_digits}
 use Rattle.script_text.proofs.numbers.parse_digits.Given as goal
 
 abbrev pub invariant-loop-byte : goal.invariant-loop-byte

@@ -1,7 +1,7 @@
 use Rattle.std.proofs.Common.{◌≡◌, Ok, sym, ◌∙◌, arith}
 use Rattle.std.proofs.lemmas.Bool.{ne_eqb}
-use Rattle.store_model.specs.declared.item.Item.TheVariants.{Blank}
-use Rattle.store_model.specs.Grammar.{item_of}
+use Rattle.text_model.specs.declared.item.Item.TheVariants.{Blank}
+use Rattle.text_model.specs.Grammar.{item_of}
 use Rattle.script_text.proofs.Blank.{item_of-blank, item_of-comment, item_of-form}
 use Rattle.script_text.proofs.ItemReading.{answers_its_item}
 use Rattle.script_text.proofs.parse.parse_line.Goals as goal

@@ -1,5 +1,5 @@
 use Rattle.std.proofs.Common.{List, ℕ, [], ◌∷◌, ◌++◌, take, ap, ◌∙◌, append_assoc}
-use Rattle.store_model.specs.ItemText.{decimals}
+use Rattle.text_model.specs.ItemText.{decimals}
 use Rattle.script_text.specs.Printing.{spaced}
 use Rattle.script_text.proofs.Spaced.{spaced_more, kept}
 use Rattle.script_text.proofs.print.print_numbers.Goals as goal

@@ -1,5 +1,5 @@
 use Rattle.std.proofs.Common.{◌≡◌, ◌++◌, take}
-use Rattle.store_model.specs.ItemText.{decimals}
+use Rattle.text_model.specs.ItemText.{decimals}
 use Rattle.script_text.specs.Printing.{spaced}
 use Rattle.script_text.proofs.print.print_numbers.Given as goal
 

@@ -1,5 +1,5 @@
 use Rattle.std.proofs.Common.{◌≡◌, Ok, rules}
-use Rattle.store_model.specs.declared.item.Item.TheVariants.{Command as CommandItem}
+use Rattle.text_model.specs.declared.item.Item.TheVariants.{Command as CommandItem}
 use Rattle.script_text.proofs.tests.commands_both_ways.Goals as goal
 
 pub print_command-requires : goal.print_command-requires

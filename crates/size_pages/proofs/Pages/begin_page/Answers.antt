@@ -15,3 +15,6 @@ returns-clause-started c = begin_fits c.args.self.now c.lowest_unused-page.new.s
 
 pub returns-clause-kept : goal.returns-clause-kept
 returns-clause-kept c = begin_keeps c.args.self.now c.lowest_unused-page.new.self c.take_off.new.self c.args.space.now c.take_off.new.space c.start_class.new.space c.lowest_unused-page.result c.args.n c.requires.stands c.requires.n.0 c.requires.n.1 c.lowest_unused-page.ensures.raised c.lowest_unused-page.ensures.lowest c.take_off.ensures.off c.take_off.ensures.unlinks c.take_off.ensures.signs c.take_off.ensures.heads c.start_class.ensures.starts c.start_class.ensures.arenas
+
+pub returns-clause-empty : goal.returns-clause-empty
+returns-clause-empty c = record { chain = c.start_class.ensures.starts.chain; fresh = c.start_class.ensures.starts.fresh }

@@ -14,7 +14,7 @@ returns c = record {
     below = omega arith;
     placed = λ k below. absurd (omega arith);
     blocks = record { size_low = c.requires.page.0; pages = λ k below. absurd (omega arith); inside = tt; apart = tt };
-    classes = record { small = λ k below. absurd (omega arith); within = omega arith; used = λ k below. absurd (omega arith) };
+    classes = record { small = λ k below. absurd (omega arith); within = omega arith; used = λ k below. absurd (omega arith); last = λ k below. absurd (omega arith) };
     lists = record {
       lists = λ s. [];
       waits = refl;

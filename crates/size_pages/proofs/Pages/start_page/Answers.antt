@@ -15,7 +15,7 @@ returns-then-index-eq0-clause-begun c =
     let s = c.requires.stands in
     let none = sym (index_default c.args.self.now.heads.items 0 c.index.result.now c.index.ensures (omega (arith, c.requires.heads))) ∙ c.if-index-eq0.true in
     begins_new c.args.self.now c.add_arena.new.self c.begin_page.new.self c.args.space.now c.add_arena.new.space c.begin_page.new.space c.begin_page.result c.args.n s
-    (all_used c.args.self.now c.args.space.now s.live s.waiting s.fits none) c.in_ok-add_arena.ensures.ok c.begin_page.ensures.can c.begin_page.ensures.started c.begin_page.ensures.kept c.begin_page.ensures.lowest c.begin_page.ensures.counts c.begin_page.ensures.arenas
+    (all_used c.args.self.now c.args.space.now s.live s.waiting s.fits none) c.in_ok-add_arena.ensures.ok c.begin_page.ensures.can c.begin_page.ensures.started c.begin_page.ensures.kept c.begin_page.ensures.lowest c.begin_page.ensures.counts c.begin_page.ensures.arenas c.begin_page.ensures.empty
 
 pub begin_page-requires-2-clause-unused : goal.begin_page-requires-2-clause-unused
 begin_page-requires-2-clause-unused c =
@@ -27,4 +27,4 @@ returns-clause-begun c =
     let s = c.requires.stands in
     begins_old c.args.self.now c.begin_page-2.new.self c.args.space.now c.begin_page-2.new.space c.begin_page-2.result c.args.n s
     (has_unused c.args.self.now c.args.space.now s.live s.waiting s.fits (λ e. c.if-index-eq0.false (index_default c.args.self.now.heads.items 0 c.index.result.now c.index.ensures (omega (arith, c.requires.heads)) ∙ e)))
-    c.begin_page-2.ensures.can c.begin_page-2.ensures.started c.begin_page-2.ensures.kept c.begin_page-2.ensures.lowest c.begin_page-2.ensures.counts c.begin_page-2.ensures.arenas
+    c.begin_page-2.ensures.can c.begin_page-2.ensures.started c.begin_page-2.ensures.kept c.begin_page-2.ensures.lowest c.begin_page-2.ensures.counts c.begin_page-2.ensures.arenas c.begin_page-2.ensures.empty

@@ -7,7 +7,7 @@ use Rattle.size_pages.proofs.TakeLaws.{same_stands, first_with_room, can_take_fi
 use Rattle.size_pages.proofs.KeepLaws.{keeps_same, keeps_then, off_keeps}
 use Rattle.size_pages.proofs.ArenaLaws.{arenas_then}
 use Rattle.size_pages.proofs.GrowthLaws.{arenas_outside, outside_then}
-use Rattle.size_pages.proofs.ChoiceLaws.{from_grown, arena_grown, none_grown, from_first, arena_first, from_begun, arena_begun, first_elsewhere, begun_elsewhere}
+use Rattle.size_pages.proofs.ChoiceLaws.{next_first, next_begun, next_grown, from_grown, arena_grown, none_grown, from_first, arena_first, from_begun, arena_begun, first_elsewhere, begun_elsewhere}
 use Rattle.size_pages.proofs.Pages.take.Goals as goal
 
 pub returns-in_err-grow_heads-clause-err_blocks : goal.returns-in_err-grow_heads-clause-err_blocks
@@ -113,3 +113,17 @@ returns-in_err-page-clause-stands c =
 
 pub returns-clause-stands : goal.returns-clause-stands
 returns-clause-stands c = let st = c.requires.stands in record { live = (c.take_unlisted-2.result, c.args.n) ∷ st.live; waiting = st.waiting; fits = c.take_unlisted-2.ensures.taken st.live st.waiting 0 (c.in_ok-page.ensures.begun.started st.live st.waiting (c.grow_heads.ensures.keeps c.args.space.now st.live st.waiting st.fits)) }
+
+pub returns-then-page-ne0-clause-first : goal.returns-then-page-ne0-clause-first
+returns-then-page-ne0-clause-first c =
+    let small : c.args.n ≤ c.args.self.now.small = c.requires.n.1 in
+    next_grown c.args.self.now c.grow_heads.new.self c.args.space.now c.take_unlisted.result c.index-page.result.now c.grow_heads.ensures.sizes
+    (c.take_unlisted.ensures.page ∙ ap (λ (k : ℕ). page_of k c.take_unlisted.result) c.take_off.ensures.heads.page)
+    (next_first c.grow_heads.new.self c.args.space.now c.take_off.new.space c.index-page.result.now c.args.n c.take_unlisted.result c.requires.n.0 (first_with_room c.grow_heads.new.self c.args.space.now c.index-page.result.now c.args.n (stands_on c.args.self.now c.grow_heads.new.self c.args.space.now c.requires.stands (c.grow_heads.ensures.keeps c.args.space.now)) c.requires.n.0 c.if-page-ne0.true
+    (index_default c.grow_heads.new.self.heads.items (2 * c.args.n) c.index-page.result.now c.index-page.ensures (omega (arith, c.in_ok-grow_heads.ensures.long)))) c.take_off.ensures.signs c.take_unlisted.ensures.next)
+
+pub returns-clause-first : goal.returns-clause-first
+returns-clause-first c =
+    next_grown c.args.self.now c.grow_heads.new.self c.args.space.now c.take_unlisted-2.result c.in_ok-page.page c.grow_heads.ensures.sizes
+    (c.take_unlisted-2.ensures.page ∙ ap (λ (k : ℕ). page_of k c.take_unlisted-2.result) c.in_ok-page.ensures.begun.sizes.page)
+    (next_begun c.grow_heads.new.self c.start_page.new.self c.args.space.now c.start_page.new.space c.in_ok-page.page c.args.n c.take_unlisted-2.result c.in_ok-page.ensures.begun c.take_unlisted-2.ensures.next)

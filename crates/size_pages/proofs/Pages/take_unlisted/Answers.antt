@@ -43,3 +43,9 @@ returns-clause-page c = taken_page c.args.self.now c.args.space.now c.take_from-
 
 pub returns-clause-place : goal.returns-clause-place
 returns-clause-place c = taken_place c.args.self.now c.args.space.now c.take_from-block.new.space c.args.page c.args.n c.take_from-block.result c.requires (record { chained = c.take_from-block.ensures.chained; fresh = c.take_from-block.ensures.fresh })
+
+pub returns-clause-next : goal.returns-clause-next
+returns-clause-next c = record {
+  chained = λ e. (c.take_from-block.ensures.chained e).first;
+  fresh = λ e. (c.take_from-block.ensures.fresh e).first;
+}

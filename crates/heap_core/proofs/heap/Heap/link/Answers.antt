@@ -1,23 +1,17 @@
-use Rattle.std.proofs.Common.{ℕ, ap, ◌∙◌}
-use Rattle.store_model.specs.declared.command.Command.TheVariants.{Link}
-use Rattle.store_model.specs.Slots.{held}
-use Rattle.store_model.specs.Steps.{put_ref}
+use Rattle.std.proofs.Common.{[], ap}
+use Rattle.text_model.specs.declared.command.Command.TheVariants.{Link}
 use Rattle.heap_core.specs.Seen.{seen}
 use Rattle.heap_core.specs.declared.heap.Heap.TheInside.{Inside}
 use Rattle.heap_core.specs.declared.heap.State.TheVariants.{Started}
-use Rattle.heap_core.specs.Effects.{with_word_at, ref_place}
-use Rattle.heap_core.proofs.Commands.{link_changes}
-use Rattle.heap_core.proofs.Calls.{in_state, changes_started, changes_idle}
+use Rattle.heap_core.proofs.Calls.{in_state, performs_started}
 use Rattle.heap_core.proofs.heap.Heap.link.Goals as goal
-use Rattle.heap_core.proofs.heap.Heap.link.Goals.{in-Started, in-Closed, in-Closed-2}
+use Rattle.heap_core.proofs.heap.Heap.link.Goals.{in-Started+in_ok-link_ref-in-Started, in-Closed, in-Closed-2}
 
-pub returns-clause-changes : goal.returns-clause-changes
-returns-clause-changes c = elim c.match-self.branch [
-  | in-Started w ↦ changes_started c.args.self.now _ w.in-Started.parts w.link.new.self _ (Link c.args.root c.args.i c.args.from) (λ store. put_ref store c.args.root c.args.i (held store.slots c.args.from))
+pub returns-clause-performs : goal.returns-clause-performs
+returns-clause-performs c = elim c.match-self.branch [
+  | in-Started+in_ok-link_ref-in-Started w ↦ rw w.result-is (performs_started c.args.self.now _ w.in-Started.parts w.link_ref.new.parts (Link c.args.root c.args.i c.args.from) [] []
       (in_state c.args.self.now c.self.inside.state (Started w.in-Started.parts) c.self.view_is w.in-Started.is)
-      (ap (λ (i : Inside). seen i.state) w.self-inside-is) (w.link.ensures ∙ ap (λ (place : ℕ). with_word_at w.in-Started.parts (ref_place w.in-Started.parts c.args.root c.args.i) place) w.place-to.ensures) c.requires (λ ready. link_changes w.in-Started.parts c.args.root c.args.i c.args.from ready)
-  | in-Closed w ↦ changes_idle c.args.self.now _ c.self.inside.state (Link c.args.root c.args.i c.args.from) (λ store. put_ref store c.args.root c.args.i (held store.slots c.args.from)) w.in-Closed.is c.self.view_is
-      (ap (λ (i : Inside). seen i.state) w.self-inside-is) c.requires
-  | in-Closed-2 w ↦ changes_idle c.args.self.now _ c.self.inside.state (Link c.args.root c.args.i c.args.from) (λ store. put_ref store c.args.root c.args.i (held store.slots c.args.from)) w.in-Closed.is c.self.view_is
-      (ap (λ (i : Inside). seen i.state) w.self-inside-is) c.requires
+      (ap (λ (i : Inside). seen i.state) w.self-inside-is) w.in_ok-link_ref-in-Started.ensures.does)
+  | in-Closed w ↦ rw w.result-is tt
+  | in-Closed-2 w ↦ rw w.result-is tt
 ]

@@ -1,11 +1,12 @@
-use Rattle.std.proofs.Common.{Ok, ℕ, ap, ap₂, ◌∙◌, nat_eq}
+use Rattle.std.proofs.Common.{[], ◌∷◌}
+use Rattle.text_model.specs.declared.command.Command.TheVariants.{Same}
+use Rattle.text_model.specs.declared.line.Line.TheVariants.{SameAs}
 use Rattle.heap_core.specs.declared.heap.State.TheVariants.{Started}
-use Rattle.heap_core.proofs.Commands.{same_is}
-use Rattle.heap_core.proofs.Calls.{in_state, stands_of}
+use Rattle.heap_core.proofs.Calls.{in_state, performs_started}
 use Rattle.heap_core.proofs.heap.Heap.same.Goals as goal
 
-pub returns-in-Started-clause-value : goal.returns-in-Started-clause-value
-returns-in-Started-clause-value c = λ store s.
+pub returns-in-Started-clause-performs : goal.returns-in-Started-clause-performs
+returns-in-Started-clause-performs c =
     let parts = c.in-Started.parts in
     let now = in_state c.args.self.now c.self.inside.state (Started parts) c.self.view_is c.in-Started.is in
-    ap Ok (ap₂ (λ (a b : ℕ). nat_eq a b) c.place.ensures c.place-in-Started.ensures ∙ same_is parts store c.args.a c.args.b (stands_of c.args.self.now parts store now s))
+    performs_started c.args.self.now c.args.self.now parts parts (Same c.args.a c.args.b) [] (SameAs c.same_place.result ∷ []) now now c.same_place.ensures

@@ -1,5 +1,5 @@
 use Rattle.std.proofs.Common.{◌≡◌, ℕ, take, if◌then◌else◌}
-use Rattle.store_model.specs.Sets.{is_in}
+use Rattle.object_model.specs.Sets.{is_in}
 use Rattle.rawref_links.specs.Objects.{no_links, links_at}
 use Rattle.rawref_links.proofs.objects.Objects.forget.Given as goal
 

@@ -1,5 +1,5 @@
 use Rattle.std.proofs.Common.{◌≡◌, ℕ, take}
-use Rattle.store_model.specs.Sets.{is_in}
+use Rattle.object_model.specs.Sets.{is_in}
 use Rattle.rawref_links.specs.Objects.{is_at_one}
 use Rattle.rawref_links.proofs.objects.Objects.numbers_of.Given as goal
 

@@ -4,7 +4,7 @@ use Rattle.std.specs.Map.Iter.{deref_pair}
 use Rattle.std.specs.Cmp.{nat_eq_equiv}
 use Rattle.std.proofs.lemmas.Map.Iter.{hash_map_turn, rest_more}
 use Rattle.type_table.specs.Table.{value_at}
-use Rattle.store_model.specs.Sets.{is_in}
+use Rattle.object_model.specs.Sets.{is_in}
 use Rattle.rawref_links.specs.Structures.{slot_at, is_forcing}
 use Rattle.rawref_links.proofs.Keyed.{forcing_listed, value_at-seen, told_more, told_no_more}
 use Rattle.rawref_links.proofs.structures.Structures.forcing.Goals as goal

@@ -1,7 +1,7 @@
 use Rattle.std.proofs.Common.{◌≡◌, ℕ, ◌||◌, ◌&&◌}
 use Rattle.std.specs.Map.{keys_of}
 use Rattle.type_table.specs.Table.{value_at}
-use Rattle.store_model.specs.Sets.{is_in}
+use Rattle.object_model.specs.Sets.{is_in}
 use Rattle.rawref_links.specs.Structures.{is_forcing}
 use Rattle.rawref_links.proofs.structures.Structures.forcing.Given as goal
 

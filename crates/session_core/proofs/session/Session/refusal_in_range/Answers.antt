@@ -1,8 +1,18 @@
-use Rattle.std.proofs.Common.{ap, sym, ◌∙◌}
-use Rattle.store_model.specs.Range.{is_above}
-use Rattle.heap_core.proofs.Ready.{len_in_range}
+use Rattle.std.proofs.Common.{ap, sym, ◌∙◌, arith}
+use Rattle.text_model.specs.Range.{is_above}
+use Rattle.session_core.proofs.Passing.{len_in_range, copy_in_range}
 use Rattle.session_core.proofs.session.Session.refusal_in_range.Goals as goal
 
 pub array_refusal-requires-clause-len : goal.array_refusal-requires-clause-len
 array_refusal-requires-clause-len c =
     len_in_range c.in-NewArray.root c.in-NewArray.type_id c.in-NewArray.len (ap is_above (sym c.in-NewArray.is) ∙ c.requires.in_range)
+
+pub overflow_add-item : goal.overflow_add-item
+overflow_add-item c =
+    let short = copy_in_range c.in-CopyRefs.root c.in-CopyRefs.item c.in-CopyRefs.from c.in-CopyRefs.from_item c.in-CopyRefs.count
+    (ap is_above (sym c.in-CopyRefs.is) ∙ c.requires.in_range) in omega (arith, short.0, short.2)
+
+pub overflow_add-from_item : goal.overflow_add-from_item
+overflow_add-from_item c =
+    let short = copy_in_range c.in-CopyRefs.root c.in-CopyRefs.item c.in-CopyRefs.from c.in-CopyRefs.from_item c.in-CopyRefs.count
+    (ap is_above (sym c.in-CopyRefs.is) ∙ c.requires.in_range) in omega (arith, short.1, short.2)

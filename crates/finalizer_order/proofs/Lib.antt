@@ -1,0 +1,16 @@
+pub mod Changes
+pub mod Objects
+pub mod Lists
+pub mod Candidates
+pub mod Marks
+pub mod Steps
+pub mod MeetSteps
+pub mod PassSteps
+pub mod Entries
+pub mod FlagWords
+pub mod RunSteps
+pub mod QueueLaws
+pub mod Listing
+pub mod ChooseSteps
+pub mod QueueSteps
+pub mod CallerLaws

@@ -1,0 +1,10 @@
+pub mod Finalizers
+pub mod Queues
+pub mod Listed
+pub mod Moves
+pub mod Paths
+pub mod Unvisited
+pub mod Changes
+pub mod Choosing
+pub mod Marking
+pub mod Passes

@@ -1,0 +1,260 @@
+-- Births by commands.
+use Rattle.std.proofs.Common.{◌≡◌, ℕ, ◌+◌, ◌<◌, ◌≤◌, Bool, true, false, List, [], ◌∷◌, ◌++◌, Option, Some, None, Result, Ok, Err, OnOk, OnErr, refl, sym, ap, ◌∙◌, subst, arith}
+use Rattle.std.specs.declared.alloc.AllocError.{AllocError}
+use Rattle.std.specs.Prelude.{not, nat_lt}
+use Rattle.std.proofs.lemmas.Bool.{ltb-false}
+use Rattle.std.proofs.lemmas.Bool.Decides.{nat_tests}
+use Rattle.type_table.specs.declared.info.Shape.{Shape}
+use Rattle.type_table.specs.declared.info.Shape.TheVariants.{Fixed, IntArray, RefArray, Weak}
+use Rattle.type_table.specs.declared.info.TypeInfo.{TypeInfo}
+use Rattle.type_table.specs.Table.{value_at}
+use Rattle.type_table.specs.Words.{words_in}
+use Rattle.nursery_gaps.specs.Nursery.{Fits}
+use Rattle.text_model.specs.Range.{is_above, is_above_ids, is_above_items}
+use Rattle.text_model.specs.declared.command.Command.TheVariants.{NewFixed, NewArray}
+use Rattle.text_model.specs.declared.item.Reason.TheVariants.{NotBuilt, WrongShape, Range}
+use Rattle.text_model.specs.declared.line.Line.{Line}
+use Rattle.text_model.specs.declared.line.Line.TheVariants.{Born}
+use Rattle.object_model.specs.Setup.{young_words}
+use Rattle.object_model.specs.Shapes.{is_fixed_shape, is_array_shape, is_weak_shape}
+use Rattle.store_model.specs.Store.{Store, unsettled_words, counted_words}
+use Rattle.store_model.specs.Checks.{first_reason, born_checks}
+use Rattle.store_model.specs.Births.{array_request, words_of_type, BirthWithRoom, BirthWithRoomOf, Births}
+use Rattle.store_model.specs.Birth.{with_birth}
+use Rattle.store_model.specs.Collections.{MakesRoom, needs_block, exceeds_limit}
+use Rattle.store_model.specs.Steps.{Does}
+use Rattle.store_model.specs.Unbuilt.{needs_collection}
+use Rattle.heap_parts.specs.Parts.{HeapParts}
+use Rattle.heap_parts.specs.Told.{room_told}
+use Rattle.heap_parts.specs.StandsFor.{PartsStandFor}
+use Rattle.heap_parts.specs.Births.{HasNurseryRoom, HasOldRoom, BearsYoung, BearsOld}
+use Rattle.heap_core.specs.Commands.{AreStanding, AreReady}
+use Rattle.heap_core.specs.Bearing.{PartsAppend, IsFitting, MayBear, Bears, BearsKnown}
+use Rattle.nursery_gaps.specs.Ranges.{Range as NurseryRange, AreRising}
+use Rattle.heap_core.proofs.Ready.{passed, one_slot, or_false}
+use Rattle.heap_core.proofs.LookLaws.{counted_told}
+use Rattle.heap_core.proofs.BirthLaws.{CanBear, young_stands, old_stands, room_ungapped}
+
+-- an array in range is not too long
+len_in_range : (root type_id len : ℕ) → is_above (NewArray root type_id len) ≡ false → len ≤ 16777216
+unfolding is_above
+len_in_range root type_id len e =
+    ltb-false 16777216 len (or_false (is_above_ids type_id) (is_above_items len) (or_false (is_above_ids root) _ e).1).1
+
+fixed-plain : (shape : Shape) → is_fixed_shape shape ≡ true → is_weak_shape shape ≡ false
+fixed-plain (Fixed ints refs) e = refl
+fixed-plain IntArray e = refl
+fixed-plain RefArray e = refl
+fixed-plain Weak e = absurd (let no : ⊥ = cc in no)
+
+array-plain : (shape : Shape) → is_array_shape shape ≡ true → is_weak_shape shape ≡ false
+array-plain (Fixed ints refs) e = refl
+array-plain IntArray e = refl
+array-plain RefArray e = refl
+array-plain Weak e = absurd (let no : ⊥ = cc in no)
+
+not-false : (b : Bool) → not b ≡ false → b ≡ true
+not-false true e = refl
+not-false false e = absurd (let no : ⊥ = cc in no)
+
+-- a birth that is not refused fits
+birth_passed : (found : Option TypeInfo) (heap : HeapParts) (test : Shape → Bool) (root type_id items : ℕ) → AreStanding heap → value_at heap.setup.types type_id ≡ found
+    → ((shape : Shape) → test shape ≡ true → is_weak_shape shape ≡ false) → root < heap.setup.settings.roots → items ≤ 16777216
+    → first_reason (born_checks found test ++ (needs_collection heap.setup (room_told heap) (words_of_type found items), NotBuilt) ∷ []) ≡ None
+    → MayBear heap root type_id items
+birth_passed None heap test root type_id items standing found plain l few e = absurd (let no : ⊥ = cc in no)
+birth_passed (Some info) heap test root type_id items standing found plain l few e =
+    let settings = heap.setup.settings in let n : ℕ = words_in info.shape items in
+    let shaped = passed (not (test info.shape)) WrongShape _ e in
+    let room = or_false (nat_lt settings.nursery (heap.unsettled + heap.fresh + n)) (nat_lt settings.limit (heap.unsettled + heap.old_words + n)) (passed _ NotBuilt None shaped.1).0 in record {
+      info = info;
+      fits = record {
+        standing = standing;
+        known = found;
+        plain = plain info.shape (not-false (test info.shape) shaped.0);
+        root_in = l;
+        items_few = few;
+        nursery = ltb-false settings.nursery (heap.unsettled + heap.fresh + n) room.0;
+        limit = ltb-false settings.limit (heap.unsettled + heap.old_words + n) room.1;
+      };
+    }
+
+pub fixed_may : (heap : HeapParts) (root type_id : ℕ) → AreReady heap (NewFixed root type_id) → MayBear heap root type_id 0
+fixed_may heap root type_id ready =
+    let one = one_slot heap.setup.settings.roots root (is_above (NewFixed root type_id)) false _ ready.accepted in
+    birth_passed (value_at heap.setup.types type_id) heap is_fixed_shape root type_id 0 ready.standing refl fixed-plain one.0 (omega arith) one.1
+
+pub array_may : (heap : HeapParts) (root type_id len : ℕ) → AreReady heap (NewArray root type_id len) → MayBear heap root type_id len
+array_may heap root type_id len ready =
+    let one = one_slot heap.setup.settings.roots root (is_above (NewArray root type_id len)) false _ ready.accepted in
+    birth_passed (value_at heap.setup.types type_id) heap is_array_shape root type_id len ready.standing refl array-plain one.0
+    (len_in_range root type_id len (passed (is_above (NewArray root type_id len)) Range _ ready.accepted).0) one.1
+
+-- a type that was found is the one that fits
+pub fits_found : (heap : HeapParts) (root type_id items : ℕ) (info : TypeInfo) → MayBear heap root type_id items → value_at heap.setup.types type_id ≡ Some info → IsFitting heap root type_id info items
+fits_found heap root type_id items info may found =
+    let both : Some may.info ≡ Some info = sym may.fits.known ∙ found in
+    let same : may.info ≡ info = cc in subst (λ (k : TypeInfo). IsFitting heap root type_id k items) same may.fits
+
+rising-least : (from to : ℕ) (ranges : List NurseryRange) → AreRising from to ranges → from ≤ to
+rising-least from to [] r = r
+rising-least from to (x ∷ ranges) r = let more = rising-least (x.0 + x.1) to ranges r.2 in omega (arith, r.0, more)
+
+-- what the births of the parts ask
+pub nursery_room : (heap : HeapParts) (root type_id items : ℕ) (info : TypeInfo) → IsFitting heap root type_id info items → HasNurseryRoom heap root info items
+nursery_room heap root type_id items info f =
+    let s = f.standing.stands in let laid = s.words.young.laid_out in
+    let most = s.made.ranges.1 in let room = f.nursery in let slot = f.root_in in
+    let least = rising-least 1 heap.nursery.gap laid.below laid.lower in record {
+      slot = omega (arith, slot, s.slots.many);
+      items_few = f.items_few;
+      whole = s.words.young.whole;
+      least = (let passed_it = laid.passed in omega (arith, passed_it, least));
+      next_small = s.births.next_high;
+      unsettled_small = omega (arith, room, most);
+    }
+
+pub old_room : (heap : HeapParts) (root type_id items : ℕ) (info : TypeInfo) → IsFitting heap root type_id info items → HasOldRoom heap root info items
+old_room heap root type_id items info f =
+    let s = f.standing.stands in
+    let most = s.made.ranges.2.2.1 in let room = f.limit in let slot = f.root_in in let fresh = s.sums.fresh_old in record {
+      slot = omega (arith, slot, s.slots.many);
+      items_few = f.items_few;
+      stands = record { live = _; waiting = s.waiting; blocks = s.words.blocks };
+      next_small = s.births.next_high;
+      old_small = omega (arith, room, most);
+      fresh_small = omega (arith, room, most, fresh);
+    }
+
+can_bear : (heap : HeapParts) (root type_id items birth : ℕ) (info : TypeInfo) → IsFitting heap root type_id info items → type_id < 65536 → birth ≡ heap.next → birth ≤ 9223372036854775806
+    → CanBear heap type_id info items
+can_bear heap root type_id items birth info f small is low = record { known = f.known; small = small; plain = f.plain; limit = f.limit; next = omega (arith, is, low) }
+
+-- an object was born in the nursery
+pub bears_young : (heap new : HeapParts) (root type_id items birth : ℕ) (info : TypeInfo) (before after : List Line) → IsFitting heap root type_id info items → type_id < 65536
+    → birth ≡ heap.next → birth ≤ 9223372036854775806 → words_in info.shape items ≤ young_words heap.setup.settings → BearsYoung heap new root type_id info items
+    → after ≡ before ++ Born birth false ∷ [] → BearsKnown heap new root type_id items before after
+bears_young heap new root type_id items birth info before after f small is low few b appended = record {
+  info = info;
+  known = f.known;
+  bears = record {
+    setup = ap (λ (h : HeapParts). h.setup) b.is;
+    is_old = false;
+    large = λ more. absurd (let no : ⊥ = omega (arith, more, few) in no);
+    small = λ l g. refl;
+    appended = appended ∙ ap (λ (k : ℕ). before ++ Born k false ∷ []) is;
+    stands = λ store s. young_stands heap new store root type_id items info s (can_bear heap root type_id items birth info f small is low) b;
+  };
+}
+
+-- and outside it
+pub bears_old : (heap mid new : HeapParts) (root type_id items birth : ℕ) (info : TypeInfo) (before after : List Line) → IsFitting heap root type_id info items → type_id < 65536
+    → birth ≡ heap.next → birth ≤ 9223372036854775806
+    → (words_in info.shape items ≤ young_words heap.setup.settings → (place : ℕ) → Fits heap.nursery (words_in info.shape items) place → ⊥)
+    → mid ≡ heap → BearsOld mid new root type_id info items
+    → after ≡ before ++ Born birth true ∷ [] → BearsKnown heap new root type_id items before after
+bears_old heap mid new root type_id items birth info before after f small is low full same born appended =
+    let b : BearsOld heap new root type_id info items = subst (λ (h : HeapParts). BearsOld h new root type_id info items) same born in record {
+      info = info;
+      known = f.known;
+      bears = record {
+        setup = ap (λ (h : HeapParts). h.setup) b.is ∙ ap (λ (h : HeapParts). h.setup) b.takes.keeps.only;
+        is_old = true;
+        large = λ more. refl;
+        small = λ few ungapped. absurd (
+            let s = f.standing.stands in let room = f.nursery in
+            full few heap.nursery.cursor (room_ungapped heap f.standing.store s (words_in info.shape items) ungapped (omega (arith, room))));
+        appended = appended ∙ ap (λ (k : ℕ). before ++ Born k true ∷ []) is;
+        stands = λ store s. old_stands heap new store root type_id items info s (can_bear heap root type_id items birth info f small is low) b;
+      };
+    }
+
+-- no collection came before it
+no_collection : (heap : HeapParts) (store : Store) (s : PartsStandFor heap store) (n : ℕ) → heap.unsettled + heap.fresh + n ≤ heap.setup.settings.nursery
+    → heap.unsettled + heap.old_words + n ≤ heap.setup.settings.limit → MakesRoom heap.setup.settings store n [] store
+no_collection heap store s n nursery limit =
+    let settings = heap.setup.settings in
+    let young : needs_block settings store n ≡ false =
+    (let unsettled = s.sums.unsettled_are in let fresh = s.counts.fresh_is in
+    let low : unsettled_words store.kept store.settled + store.fresh + n ≤ settings.nursery = omega (arith, unsettled, fresh, nursery) in grind (arith, nat_tests)) in
+    let all : exceeds_limit settings store n ≡ false =
+    (let counted = counted_told heap store s in let low : counted_words store + n ≤ settings.limit = omega (arith, counted, limit) in grind (arith, nat_tests)) in
+    record {
+      mid = store;
+      first = [];
+      second = [];
+      block = rw young (refl, refl);
+      collect = rw all (refl, refl);
+      printed = refl;
+    }
+
+-- the birth is the command's
+births_as : (heap new : HeapParts) (root type_id items : ℕ) (info : TypeInfo) (before after : List Line) → IsFitting heap root type_id info items
+    → (b : Bears heap new root type_id info items before after) (store : Store) → PartsStandFor heap store
+    → BirthWithRoom heap.setup info store (array_request root type_id items) (Born heap.next b.is_old ∷ []) (with_birth b.is_old store info (array_request root type_id items))
+births_as heap new root type_id items info before after f b store s = record {
+  mid = store;
+  before = [];
+  own = Born heap.next b.is_old ∷ [];
+  made_room = no_collection heap store s (words_in info.shape items) f.nursery f.limit;
+  fits = (let counted = counted_told heap store s in let limit = f.limit in omega (arith, counted, limit));
+  born = record {
+    is_old = b.is_old;
+    large = b.large;
+    small = λ l gapped. b.small l (sym s.counts.gapped_is ∙ gapped);
+    printed = ap (λ (k : ℕ). Born k b.is_old ∷ []) (sym s.counts.next_is);
+    leaves = refl;
+  };
+  printed = refl;
+}
+
+births_of : (heap new : HeapParts) (root type_id items : ℕ) (before after : List Line) → MayBear heap root type_id items → (b : BearsKnown heap new root type_id items before after)
+    → (store : Store) → PartsStandFor heap store
+    → Births heap.setup store (array_request root type_id items) (Born heap.next b.bears.is_old ∷ []) (with_birth b.bears.is_old store b.info (array_request root type_id items))
+births_of heap new root type_id items before after may b store s =
+    let f = fits_found heap root type_id items b.info may b.known in
+    subst (λ (found : Option TypeInfo). BirthWithRoomOf found heap.setup store (array_request root type_id items) (Born heap.next b.bears.is_old ∷ [])
+    (with_birth b.bears.is_old store b.info (array_request root type_id items))) (sym b.known)
+    (births_as heap new root type_id items b.info before after f b.bears store s)
+
+pub fixed_does : (heap new : HeapParts) (root type_id : ℕ) (before after : List Line) → AreReady heap (NewFixed root type_id) → BearsKnown heap new root type_id 0 before after
+    → PartsAppend heap new (NewFixed root type_id) before after
+unfolding Does
+fixed_does heap new root type_id before after ready b = record {
+  lines = Born heap.next b.bears.is_old ∷ [];
+  appended = b.bears.appended;
+  does = record {
+    setup = b.bears.setup;
+    does = λ store s. (
+      with_birth b.bears.is_old store b.info (array_request root type_id 0),
+      births_of heap new root type_id 0 before after (fixed_may heap root type_id ready) b store s,
+      b.bears.stands store s,
+    );
+  };
+}
+
+pub array_does : (heap new : HeapParts) (root type_id len : ℕ) (before after : List Line) → AreReady heap (NewArray root type_id len) → BearsKnown heap new root type_id len before after
+    → PartsAppend heap new (NewArray root type_id len) before after
+unfolding Does
+array_does heap new root type_id len before after ready b = record {
+  lines = Born heap.next b.bears.is_old ∷ [];
+  appended = b.bears.appended;
+  does = record {
+    setup = b.bears.setup;
+    does = λ store s. (
+      with_birth b.bears.is_old store b.info (array_request root type_id len),
+      births_of heap new root type_id len before after (array_may heap root type_id len ready) b store s,
+      b.bears.stands store s,
+    );
+  };
+}
+
+-- what follows where a call was done
+pub on_ok : {P Q : Type 0} (r : Result (Unit {0}) AllocError) → (P → Q) → OnOk r P → OnOk r Q
+on_ok (Ok u) f p = f p
+on_ok (Err e) f p = tt
+
+-- what holds whatever a call answered
+pub on_err : {E P : Type 0} (r : Result (Unit {0}) E) → P → OnErr r P
+on_err (Ok u) p = tt
+on_err (Err e) p = p

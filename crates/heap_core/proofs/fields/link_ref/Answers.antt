@@ -1,0 +1,55 @@
+use Rattle.std.proofs.Common.{◌≡◌, ◌≤◌, ◌<◌, ℕ, [], sym, ap, ◌∙◌, subst, arith}
+use Rattle.text_model.specs.declared.command.Command.TheVariants.{Link}
+use Rattle.heap_parts.specs.Parts.{HeapParts, place_in}
+use Rattle.heap_parts.specs.Remembers.{CanRemember, RemembersItem}
+use Rattle.heap_parts.specs.Effects.{with_word_at, ref_place}
+use Rattle.heap_core.specs.Commands.{PartsDo}
+use Rattle.heap_core.proofs.Ready.{link_ready, link_few}
+use Rattle.heap_core.proofs.BarrierCalls.{link_can, link_ready_after, link_young_does, link_old_does}
+use Rattle.heap_core.proofs.fields.link_ref.Goals as goal
+
+young-at : (place root : ℕ) → place ≡ root → place < 4294967296 → root < 4294967296
+young-at place root is low = omega (arith, is, low)
+
+old-at : (place root : ℕ) → place ≡ root → 4294967296 ≤ place → 4294967296 ≤ root
+old-at place root is high = omega (arith, is, high)
+
+pub link-requires-clause-object : goal.link-requires-clause-object
+link-requires-clause-object c = (link_ready c.args.parts.now c.args.root c.args.i c.args.from c.requires).object
+
+pub link-requires-clause-item : goal.link-requires-clause-item
+link-requires-clause-item c = (link_ready c.args.parts.now c.args.root c.args.i c.args.from c.requires).item_in
+
+pub returns-then-place-lt-FIRST_OLD-clause-does : goal.returns-then-place-lt-FIRST_OLD-clause-does
+returns-then-place-lt-FIRST_OLD-clause-does c =
+    let now : HeapParts = c.args.parts.now in
+    subst (λ (h : HeapParts). PartsDo now h (Link c.args.root c.args.i c.args.from) [])
+    (sym (c.link.ensures ∙ ap (λ (to : ℕ). with_word_at now (ref_place now c.args.root c.args.i) to) c.place-to.ensures))
+    (link_young_does now c.args.root c.args.i c.args.from c.requires (young-at c.place-place.result (place_in now c.args.root) c.place-place.ensures c.if-place-lt-FIRST_OLD.true))
+
+pub remember_item-requires : goal.remember_item-requires
+remember_item-requires c =
+    let now : HeapParts = c.args.parts.now in
+    subst (λ (p : ℕ). CanRemember now p c.args.i) (sym c.place-place.ensures)
+    (link_can now c.args.root c.args.i c.args.from c.requires (old-at c.place-place.result (place_in now c.args.root) c.place-place.ensures c.if-place-lt-FIRST_OLD.false)
+    (link_few now c.args.root c.args.i c.args.from c.requires))
+
+pub link-requires-2-clause-object : goal.link-requires-2-clause-object
+link-requires-2-clause-object c =
+    let now : HeapParts = c.args.parts.now in let new : HeapParts = c.remember_item.new.self in
+    (link_ready_after now new c.args.root c.args.i c.args.from c.requires (old-at c.place-place.result (place_in now c.args.root) c.place-place.ensures c.if-place-lt-FIRST_OLD.false)
+    (subst (λ (p : ℕ). RemembersItem now new p c.args.i) c.place-place.ensures c.in_ok-remember_item.ensures.remembers)).object
+
+pub link-requires-2-clause-item : goal.link-requires-2-clause-item
+link-requires-2-clause-item c =
+    let now : HeapParts = c.args.parts.now in let new : HeapParts = c.remember_item.new.self in
+    (link_ready_after now new c.args.root c.args.i c.args.from c.requires (old-at c.place-place.result (place_in now c.args.root) c.place-place.ensures c.if-place-lt-FIRST_OLD.false)
+    (subst (λ (p : ℕ). RemembersItem now new p c.args.i) c.place-place.ensures c.in_ok-remember_item.ensures.remembers)).item_in
+
+pub returns-clause-does : goal.returns-clause-does
+returns-clause-does c =
+    let now : HeapParts = c.args.parts.now in let new : HeapParts = c.remember_item.new.self in
+    subst (λ (h : HeapParts). PartsDo now h (Link c.args.root c.args.i c.args.from) [])
+    (sym (c.link-2.ensures ∙ ap (λ (to : ℕ). with_word_at new (ref_place new c.args.root c.args.i) to) c.place-to.ensures))
+    (link_old_does now new c.args.root c.args.i c.args.from c.requires (old-at c.place-place.result (place_in now c.args.root) c.place-place.ensures c.if-place-lt-FIRST_OLD.false)
+    (subst (λ (p : ℕ). RemembersItem now new p c.args.i) c.place-place.ensures c.in_ok-remember_item.ensures.remembers))

@@ -1,0 +1,12 @@
+use Rattle.std.proofs.Common.{[], ◌∷◌}
+use Rattle.text_model.specs.declared.command.Command.TheVariants.{FromObj}
+use Rattle.text_model.specs.declared.line.Line.TheVariants.{FromObjIs}
+use Rattle.heap_core.specs.declared.heap.State.TheVariants.{Started}
+use Rattle.heap_core.proofs.Calls.{in_state, performs_started}
+use Rattle.heap_core.proofs.heap.Heap.from_obj.Goals as goal
+
+pub returns-in-Started-clause-performs : goal.returns-in-Started-clause-performs
+returns-in-Started-clause-performs c =
+    let parts = c.in-Started.parts in
+    let now = in_state c.args.self.now c.self.inside.state (Started parts) c.self.view_is c.in-Started.is in
+    performs_started c.args.self.now c.args.self.now parts parts (FromObj c.args.root) [] (FromObjIs c.linked_struct.result ∷ []) now now c.linked_struct.ensures

@@ -1,0 +1,143 @@
+//! Births.
+ghost use Rattle.std.specs.Prelude.{◌≡◌, ◌≤◌, ℕ, Some, IsTrue, IsFalse, OnOk, OnErr, IfErr, Err};
+ghost use Rattle.type_table.specs.Table.{value_at};
+ghost use Rattle.type_table.specs.Words.{words_in};
+ghost use Rattle.nursery_gaps.specs.Nursery.{Fits};
+ghost use Rattle.object_model.specs.Setup.{young_words};
+ghost use Rattle.text_model.specs.declared.command.Command.TheVariants.{NewFixed, NewArray};
+ghost use Rattle.heap_parts.specs.Births.{BearsYoung};
+ghost use Rattle.heap_core.specs.declared.fault.HeapFault.TheVariants.{Spent};
+ghost use Rattle.heap_core.specs.Bearing.{PartsAppend, IsFitting, MayBear, BearsKnown};
+ghost use Rattle.heap_core.specs.Commands.{AreReady, CanDo, PartsKeep, Performs, Keeps, fault_of};
+
+use crate::fault::HeapFault;
+use crate::heap::{Heap, State};
+use heap_parts::Parts;
+use std::alloc::AllocError;
+use text_model::Line;
+use type_table::{TypeInfo, words};
+
+// The greatest birth.
+const LAST_BIRTH: u64 = (1 << 63) - 2;
+
+impl Heap {
+    /// An object of a fixed type is born for a slot, its numbers 0 and its references nil, and its line is appended. An
+    /// object of more words than the setting `young` is old from birth (a rule of this project), and so is one for which a
+    /// nursery with pinned objects has no room. After an error the heap represents the stores that it represented, and no
+    /// line is there.
+    pub fn new_fixed(
+        &mut self,
+        root: u32,
+        type_id: u16,
+        out: &mut Vec<Line>,
+    ) -> Result<(), HeapFault>
+        requires { CanDo self.old (NewFixed root type_id) }
+        ensures performs { OnOk result (Performs self.old self.new (NewFixed root type_id) out.old.items out.new.items) }
+        ensures err { OnErr result (Keeps self.old self.new) }
+        ensures err_out { OnErr result (out.new.items ≡ out.old.items) }
+        ensures cause { IfErr result (λ fault. fault ≡ fault_of self.old.is_spent) }
+        ensures spent { IsTrue self.old.is_spent → (result ≡ Err Spent) × (self.new ≡ self.old) }
+    {
+        match &mut self.state {
+            State::Started(parts) => Ok(bear_fixed(parts, root, type_id, out)?),
+            State::Closed | State::Spent => Err(HeapFault::Spent),
+        }
+    }
+
+    /// An array of `len` items is born for a slot, as an object of a fixed type is.
+    pub fn new_array(
+        &mut self,
+        root: u32,
+        type_id: u16,
+        len: u64,
+        out: &mut Vec<Line>,
+    ) -> Result<(), HeapFault>
+        requires { CanDo self.old (NewArray root type_id len) }
+        ensures performs { OnOk result (Performs self.old self.new (NewArray root type_id len) out.old.items out.new.items) }
+        ensures err { OnErr result (Keeps self.old self.new) }
+        ensures err_out { OnErr result (out.new.items ≡ out.old.items) }
+        ensures cause { IfErr result (λ fault. fault ≡ fault_of self.old.is_spent) }
+        ensures spent { IsTrue self.old.is_spent → (result ≡ Err Spent) × (self.new ≡ self.old) }
+    {
+        match &mut self.state {
+            State::Started(parts) => Ok(bear_array(parts, root, type_id, len, out)?),
+            State::Closed | State::Spent => Err(HeapFault::Spent),
+        }
+    }
+}
+
+/// An object of a fixed type is born for a slot.
+fn bear_fixed(
+    parts: &mut Parts,
+    root: u32,
+    type_id: u16,
+    out: &mut Vec<Line>,
+) -> Result<(), AllocError>
+    requires { AreReady parts.old (NewFixed root type_id) }
+    ensures does { OnOk result (PartsAppend parts.old parts.new (NewFixed root type_id) out.old.items out.new.items) }
+    ensures err { OnErr result (PartsKeep parts.old parts.new) }
+    ensures err_out { OnErr result (out.new.items ≡ out.old.items) }
+{
+    bear(parts, root, type_id, 0, out)
+}
+
+/// An array is born for a slot.
+fn bear_array(
+    parts: &mut Parts,
+    root: u32,
+    type_id: u16,
+    len: u64,
+    out: &mut Vec<Line>,
+) -> Result<(), AllocError>
+    requires { AreReady parts.old (NewArray root type_id len) }
+    ensures does { OnOk result (PartsAppend parts.old parts.new (NewArray root type_id len) out.old.items out.new.items) }
+    ensures err { OnErr result (PartsKeep parts.old parts.new) }
+    ensures err_out { OnErr result (out.new.items ≡ out.old.items) }
+{
+    bear(parts, root, type_id, len, out)
+}
+
+/// An object of a type is born for a slot, and its line is appended. The error is out of memory, also where the next
+/// birth would reach 2^63.
+fn bear(
+    parts: &mut Parts,
+    root: u32,
+    type_id: u16,
+    items: u64,
+    out: &mut Vec<Line>,
+) -> Result<(), AllocError>
+    requires { MayBear parts.old root type_id items }
+    ensures bears { OnOk result (BearsKnown parts.old parts.new root type_id items out.old.items out.new.items) }
+    ensures err { OnErr result (PartsKeep parts.old parts.new) }
+    ensures err_out { OnErr result (out.new.items ≡ out.old.items) }
+{
+    let birth = parts.next_birth();
+    if birth > LAST_BIRTH {
+        return Err(AllocError);
+    }
+    let Some(info) = parts.type_info(type_id) else {
+        return Err(AllocError);
+    };
+    out.reserve(1)?;
+    if try_young(parts, root, type_id, info, items) {
+        out.push_reserved(Line::Born { birth, old: false });
+        return Ok(());
+    }
+    parts.bear_old(root, type_id, info, items)?;
+    out.push_reserved(Line::Born { birth, old: true });
+    Ok(())
+}
+
+/// An object is born in the nursery, if it is not too large for that, and there is room. Else nothing changes.
+fn try_young(parts: &mut Parts, root: u32, type_id: u16, info: TypeInfo, items: u64) -> bool
+    requires { IsFitting parts.old root type_id info items }
+    ensures bears { IsTrue result → BearsYoung parts.old parts.new root type_id info items }
+    ensures small { IsTrue result → words_in info.shape items ≤ young_words parts.old.setup.settings }
+    ensures same { IsFalse result → parts.new ≡ parts.old }
+    ensures full { IsFalse result → words_in info.shape items ≤ young_words parts.old.setup.settings → (place : ℕ) → ¬ Fits parts.old.nursery (words_in info.shape items) place }
+{
+    if words(info, items) > parts.young_words() {
+        return false;
+    }
+    parts.bear_young(root, type_id, info, items)
+}

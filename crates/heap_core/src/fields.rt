@@ -1,0 +1,94 @@
+//! Whole numbers and references of objects.
+ghost use Rattle.std.specs.Prelude.{◌≡◌, [], ◌∷◌, IsTrue, IfOk, OnOk, OnErr, IfErr, Err};
+ghost use Rattle.text_model.specs.declared.command.Command.TheVariants.{Put, Get, Link};
+ghost use Rattle.text_model.specs.declared.line.Line.TheVariants.{Got};
+ghost use Rattle.heap_core.specs.declared.fault.HeapFault.TheVariants.{Spent};
+ghost use Rattle.heap_core.specs.Commands.{AreReady, CanDo, PartsDo, Performs, done_unless, fault_of};
+
+use crate::fault::HeapFault;
+use crate::heap::{Heap, State};
+use heap_parts::Parts;
+use std::alloc::AllocError;
+
+// The place of the first word outside the nursery.
+const FIRST_OLD: u64 = 4_294_967_296;
+
+impl Heap {
+    /// Puts a whole number into an item of the object in a slot.
+    pub fn put(&mut self, root: u32, i: u64, v: u64) -> Result<(), HeapFault>
+        requires { CanDo self.old (Put root i v) }
+        ensures performs { Performs self.old self.new (Put root i v) [] [] }
+        ensures done { result ≡ done_unless self.old.is_spent }
+        ensures spent { IsTrue self.old.is_spent → self.new ≡ self.old }
+    {
+        match &mut self.state {
+            State::Started(parts) => {
+                put_int(parts, root, i, v);
+                Ok(())
+            }
+            State::Closed | State::Spent => Err(HeapFault::Spent),
+        }
+    }
+
+    /// A whole number of the object in a slot.
+    pub fn get(&self, root: u32, i: u64) -> Result<u64, HeapFault>
+        requires { CanDo self.now (Get root i) }
+        ensures performs { IfOk result (λ v. Performs self.now self.now (Get root i) [] (Got v ∷ [])) }
+        ensures spent { IsTrue self.now.is_spent → result ≡ Err Spent }
+        ensures cause { OnErr result (IsTrue self.now.is_spent) }
+    {
+        match &self.state {
+            State::Started(parts) => Ok(get_int(parts, root, i)),
+            State::Closed | State::Spent => Err(HeapFault::Spent),
+        }
+    }
+
+    /// Puts what a slot holds, or nil, into an item of the object in another slot. Where that object is settled, the item
+    /// is remembered for the next minor collection. After an error nothing is changed.
+    pub fn link(&mut self, root: u32, i: u64, from: u32) -> Result<(), HeapFault>
+        requires { CanDo self.old (Link root i from) }
+        ensures performs { OnOk result (Performs self.old self.new (Link root i from) [] []) }
+        ensures err { OnErr result (self.new ≡ self.old) }
+        ensures cause { IfErr result (λ fault. fault ≡ fault_of self.old.is_spent) }
+        ensures spent { IsTrue self.old.is_spent → result ≡ Err Spent }
+    {
+        match &mut self.state {
+            State::Started(parts) => Ok(link_ref(parts, root, i, from)?),
+            State::Closed | State::Spent => Err(HeapFault::Spent),
+        }
+    }
+}
+
+/// Puts a whole number into an item of the object in a slot.
+fn put_int(parts: &mut Parts, root: u32, i: u64, v: u64)
+    requires { AreReady parts.old (Put root i v) }
+    ensures { PartsDo parts.old parts.new (Put root i v) [] }
+{
+    parts.put(root, i, v);
+}
+
+/// A whole number of the object in a slot.
+fn get_int(parts: &Parts, root: u32, i: u64) -> u64
+    requires { AreReady parts.now (Get root i) }
+    ensures { PartsDo parts.now parts.now (Get root i) (Got result ∷ []) }
+{
+    parts.get(root, i)
+}
+
+/// Puts what a slot holds, or nil, into an item of the object in another slot. The write barrier comes first: a place in
+/// the nursery costs it one test.
+fn link_ref(parts: &mut Parts, root: u32, i: u64, from: u32) -> Result<(), AllocError>
+    requires { AreReady parts.old (Link root i from) }
+    ensures does { OnOk result (PartsDo parts.old parts.new (Link root i from) []) }
+    ensures err { OnErr result (parts.new ≡ parts.old) }
+{
+    let place = parts.place(root);
+    let to = parts.place(from);
+    if place < FIRST_OLD {
+        parts.link(root, i, to);
+        return Ok(());
+    }
+    parts.remember_item(place, i)?;
+    parts.link(root, i, to);
+    Ok(())
+}

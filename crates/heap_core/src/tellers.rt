@@ -1,0 +1,150 @@
+//! What a heap tells, by which a caller knows beforehand what it refuses.
+ghost use Rattle.std.specs.Prelude.{◌≡◌, ◌≤◌, IsSome, IsSomeAnd, is_some};
+ghost use Rattle.store_model.specs.Store.{Store};
+ghost use Rattle.store_model.specs.Slots.{object_in};
+ghost use Rattle.store_model.specs.Look.{look};
+ghost use Rattle.store_model.specs.Unbuilt.{room_of};
+ghost use Rattle.heap_parts.specs.Told.{items_of};
+ghost use Rattle.heap_core.specs.Heap.{StandsFor};
+ghost use Rattle.heap_core.specs.Commands.{OfParts, IsStanding, type_found, told_by, room_by};
+
+use crate::heap::{Heap, State};
+use object_model::{Kind, StructState};
+use type_table::{Shape, TypeInfo};
+
+impl Heap {
+    /// The type of an id, None where the heap was not started or the id has none.
+    pub fn type_info(&self, id: u16) -> Option<TypeInfo>
+        ensures { result ≡ type_found self.now.parts id }
+    {
+        match &self.state {
+            State::Started(parts) => parts.type_info(id),
+            State::Closed | State::Spent => None,
+        }
+    }
+
+    /// The words of all objects and husks.
+    pub fn counted_words(&self) -> u64
+        requires { IsStanding self.now }
+        ensures value { result ≡ (room_by self.now).counted }
+        ensures room { (store : Store) → StandsFor self.now store → room_of store ≡ room_by self.now }
+        ensures limit { OfParts self.now.parts (λ parts. result ≤ parts.setup.settings.limit) }
+    {
+        match &self.state {
+            State::Started(parts) => parts.counted_words(),
+            State::Closed | State::Spent => 0,
+        }
+    }
+
+    /// The words of the objects in the nursery.
+    pub fn unsettled_words(&self) -> u64
+        requires { IsStanding self.now }
+        ensures value { result ≡ (room_by self.now).unsettled }
+        ensures limit { OfParts self.now.parts (λ parts. result ≤ parts.setup.settings.limit) }
+    {
+        match &self.state {
+            State::Started(parts) => parts.unsettled_words(),
+            State::Closed | State::Spent => 0,
+        }
+    }
+
+    /// The words of the objects that were born outside the nursery since the last minor collection.
+    pub fn fresh_words(&self) -> u64
+        requires { IsStanding self.now }
+        ensures value { result ≡ (room_by self.now).fresh }
+        ensures limit { OfParts self.now.parts (λ parts. result ≤ parts.setup.settings.limit) }
+    {
+        match &self.state {
+            State::Started(parts) => parts.fresh_words(),
+            State::Closed | State::Spent => 0,
+        }
+    }
+
+    /// The shape of the object in a slot and its numbers of items, None where the slot is empty or not there.
+    pub fn kind_in(&self, root: u32) -> Option<Kind>
+        requires { IsStanding self.now }
+        ensures value { result ≡ (told_by self.now).kind root }
+        ensures look { (store : Store) → StandsFor self.now store → look store ≡ told_by self.now }
+    {
+        match &self.state {
+            State::Started(parts) => parts.kind(root),
+            State::Closed | State::Spent => None,
+        }
+    }
+
+    /// Whether a slot holds an object.
+    pub fn root_is(&self, root: u32) -> bool
+        requires { IsStanding self.now }
+        ensures { result ≡ is_some ((told_by self.now).kind root) }
+    {
+        self.kind_in(root).is_some()
+    }
+
+    /// The shape of the object in a slot.
+    pub fn kind_at(&self, root: u32) -> Shape
+        requires standing { IsStanding self.now }
+        requires full { IsSome ((told_by self.now).kind root) }
+        ensures { IsSomeAnd ((told_by self.now).kind root) (λ kind. result ≡ kind.shape) }
+    {
+        self.kind_in(root).unwrap().shape
+    }
+
+    /// The items of the array in a slot, and 0 for an object of another shape.
+    pub fn len_of(&self, root: u32) -> u64
+        requires standing { IsStanding self.now }
+        requires full { IsSome ((told_by self.now).kind root) }
+        ensures { IsSomeAnd ((told_by self.now).kind root) (λ kind. result ≡ items_of kind) }
+    {
+        let kind = self.kind_in(root).unwrap();
+        match kind.shape {
+            Shape::IntArray => kind.ints,
+            Shape::RefArray => kind.refs,
+            Shape::Fixed { .. } | Shape::Weak => 0,
+        }
+    }
+
+    /// The type id of the object in a slot.
+    pub fn type_of(&self, root: u32) -> u16
+        requires standing { IsStanding self.now }
+        requires full { IsSome ((told_by self.now).kind root) }
+        ensures { (store : Store) → StandsFor self.now store → IsSomeAnd (object_in store.slots store.kept root) (λ object. result ≡ object.type_id) }
+    {
+        match &self.state {
+            State::Started(parts) => parts.type_of(root),
+            State::Closed | State::Spent => 0,
+        }
+    }
+
+    /// Whether a slot holds a pinned object.
+    pub fn is_pinned(&self, root: u32) -> bool
+        requires { IsStanding self.now }
+        ensures { result ≡ (told_by self.now).is_pinned root }
+    {
+        match &self.state {
+            State::Started(parts) => parts.is_pinned(root),
+            State::Closed | State::Spent => false,
+        }
+    }
+
+    /// Whether a slot holds an object with a P link.
+    pub fn has_p_link(&self, root: u32) -> bool
+        requires { IsStanding self.now }
+        ensures { result ≡ (told_by self.now).has_p_link root }
+    {
+        match &self.state {
+            State::Started(parts) => parts.has_p_link(root),
+            State::Closed | State::Spent => false,
+        }
+    }
+
+    /// The state of the structure of a number.
+    pub fn struct_state(&self, number: u32) -> StructState
+        requires { IsStanding self.now }
+        ensures { result ≡ (told_by self.now).structure number }
+    {
+        match &self.state {
+            State::Started(parts) => parts.struct_state(number),
+            State::Closed | State::Spent => StructState::Absent,
+        }
+    }
+}

@@ -1,0 +1,7 @@
+pub mod Refs
+pub mod Lists
+pub mod VisitStep
+pub mod MarkLoop
+pub mod FrameLaws
+pub mod ClosureLaws
+pub mod TwoObjects

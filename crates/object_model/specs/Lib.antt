@@ -1,0 +1,10 @@
+pub mod Sets
+pub mod Setup
+pub mod SettingRanges
+pub mod Object
+pub mod Fields
+pub mod Shapes
+pub mod Newborn
+pub mod Layout
+pub mod ObjectWords
+pub mod Holds

@@ -1,0 +1,14 @@
+pub mod EntryLaws
+pub mod HeadLaws
+pub mod RememberLaws
+pub mod MarkLaws
+pub mod TableLaws
+pub mod OrderLaws
+pub mod EntrySteps
+pub mod FrontLaws
+pub mod SearchLaws
+pub mod DropLaws
+pub mod GivenLaws
+pub mod CardLaws
+pub mod HandLaws
+pub mod KeptLaws

@@ -1,0 +1,5 @@
+pub mod Remembered
+pub mod Tracking
+pub mod Entries
+pub mod Drained
+pub mod Remembering

@@ -1,0 +1,100 @@
+//! What a session's heap tells: before the first command, nothing.
+ghost use Rattle.std.specs.Prelude.{◌≡◌, ◌≤◌};
+ghost use Rattle.object_model.specs.Setup.{type_at};
+ghost use Rattle.session_core.specs.Standing.{IsPlaced, setup_of, seen_if, room_seen};
+
+use crate::session::Session;
+use heap_core::Heap;
+use store_model::{Kind, StructState, TypeInfo};
+
+impl Session {
+    /// The type of an id, if there is one.
+    pub(crate) fn type_info(&self, heap: &Heap, id: u16) -> Option<TypeInfo>
+        ensures { result ≡ type_at (setup_of self.now heap.now) id }
+    {
+        match &self.types {
+            None => heap.type_info(id),
+            Some(types) => types.get(id),
+        }
+    }
+
+    /// The words of the objects in the nursery.
+    pub(crate) fn unsettled_words(&self, heap: &Heap) -> u64
+        requires { IsPlaced self.now heap.now }
+        ensures value { result ≡ (room_seen self.now.types heap.now).unsettled }
+        ensures limit { result ≤ self.now.settings.limit }
+    {
+        match &self.types {
+            None => heap.unsettled_words(),
+            Some(_) => 0,
+        }
+    }
+
+    /// The words of the objects that were born outside the nursery.
+    pub(crate) fn fresh_words(&self, heap: &Heap) -> u64
+        requires { IsPlaced self.now heap.now }
+        ensures value { result ≡ (room_seen self.now.types heap.now).fresh }
+        ensures limit { result ≤ self.now.settings.limit }
+    {
+        match &self.types {
+            None => heap.fresh_words(),
+            Some(_) => 0,
+        }
+    }
+
+    /// The words of all objects and husks.
+    pub(crate) fn counted_words(&self, heap: &Heap) -> u64
+        requires { IsPlaced self.now heap.now }
+        ensures value { result ≡ (room_seen self.now.types heap.now).counted }
+        ensures limit { result ≤ self.now.settings.limit }
+    {
+        match &self.types {
+            None => heap.counted_words(),
+            Some(_) => 0,
+        }
+    }
+
+    /// The shape of the object in a slot with its numbers of items, if there is one.
+    pub(crate) fn kind_in(&self, heap: &Heap, root: u32) -> Option<Kind>
+        requires { IsPlaced self.now heap.now }
+        ensures { result ≡ (seen_if self.now.types heap.now).kind root }
+    {
+        match &self.types {
+            None => heap.kind_in(root),
+            Some(_) => None,
+        }
+    }
+
+    /// Whether the object in a slot is pinned.
+    pub(crate) fn is_pinned(&self, heap: &Heap, root: u32) -> bool
+        requires { IsPlaced self.now heap.now }
+        ensures { result ≡ (seen_if self.now.types heap.now).is_pinned root }
+    {
+        match &self.types {
+            None => heap.is_pinned(root),
+            Some(_) => false,
+        }
+    }
+
+    /// Whether the object in a slot has a P link.
+    pub(crate) fn has_p_link(&self, heap: &Heap, root: u32) -> bool
+        requires { IsPlaced self.now heap.now }
+        ensures { result ≡ (seen_if self.now.types heap.now).has_p_link root }
+    {
+        match &self.types {
+            None => heap.has_p_link(root),
+            Some(_) => false,
+        }
+    }
+
+    /// The state of the structure of a number.
+    pub(crate) fn struct_state(&self, heap: &Heap, number: u32) -> StructState
+        requires { IsPlaced self.now heap.now }
+        ensures { result ≡ (seen_if self.now.types heap.now).structure number }
+    {
+        match &self.types {
+            None => heap.struct_state(number),
+            Some(_) => StructState::Absent,
+        }
+    }
+}

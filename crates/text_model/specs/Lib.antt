@@ -1,0 +1,10 @@
+pub mod Lines
+pub mod Numbers
+pub mod Range
+pub mod Grammar
+pub mod CommandGrammar
+pub mod ItemText
+pub mod ItemLine
+pub mod Script
+pub mod Text
+pub mod Generated
