@@ -3,7 +3,7 @@
 use Rattle.std.specs.Prelude.{ℕ, ◌+◌, Bool, true, false, ◌||◌, nat_lt, [], ◌∷◌, ◌++◌, Option, Some, None}
 use Rattle.object_model.specs.Setup.{Setup}
 use Rattle.text_model.specs.declared.command.Command.{Command}
-use Rattle.text_model.specs.declared.command.Command.TheVariants.{NewWeak, CopyRefs, Ident, Hash, Deref, Register, NextFinal, Minor, Step, Collect}
+use Rattle.text_model.specs.declared.command.Command.TheVariants.{Minor, Step, Collect}
 use Rattle.text_model.specs.declared.item.Item.{Item}
 use Rattle.text_model.specs.declared.item.Item.TheVariants.{Command as CommandItem}
 use Rattle.text_model.specs.declared.item.Reason.{Reason}
@@ -18,13 +18,6 @@ use Rattle.store_model.specs.Progress.{Progress}
 
 -- whether the program does not do the command yet
 abbrev pub is_unbuilt : Command → Bool
-is_unbuilt (NewWeak root type_id target) = true
-is_unbuilt (CopyRefs root item from from_item count) = true
-is_unbuilt (Ident root) = true
-is_unbuilt (Hash root) = true
-is_unbuilt (Deref to root) = true
-is_unbuilt (Register root queue) = true
-is_unbuilt (NextFinal to queue) = true
 is_unbuilt Minor = true
 is_unbuilt Step = true
 is_unbuilt Collect = true
