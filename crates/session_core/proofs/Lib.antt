@@ -3,3 +3,4 @@ pub mod Passing
 pub mod Looks
 pub mod Items
 pub mod Places
+pub mod Performing
