@@ -2,7 +2,7 @@
 ghost use Rattle.std.specs.Prelude.{◌≡◌, ◌<◌, false, IfErr, OnOk, OnErr, vec_len, vec_capacity};
 ghost use Rattle.heap_core.specs.declared.fault.HeapFault.TheVariants.{OutOfMemory};
 ghost use Rattle.heap_core.specs.Commands.{CanDo, Performs, Keeps};
-ghost use Rattle.session_core.specs.Commands.{is_birth, is_early, is_no_struct};
+ghost use Rattle.session_core.specs.Commands.{is_birth, is_early, is_middle, is_no_struct};
 ghost use Rattle.session_core.specs.Standing.{KeepsFront};
 
 use heap_core::{Dec, Heap, HeapFault};
@@ -25,6 +25,11 @@ pub(crate) fn do_command(
     match *command {
         Command::NewFixed { root, type_id } => heap.new_fixed(root, type_id, out),
         Command::NewArray { root, type_id, len } => heap.new_array(root, type_id, len, out),
+        Command::NewWeak {
+            root,
+            type_id,
+            target,
+        } => heap.new_weak(root, type_id, target, out),
         _ => {
             out.reserve(1)?;
             on_objects(heap, command, out)
@@ -56,6 +61,13 @@ fn on_objects(heap: &mut Heap, command: &Command, out: &mut Vec<Line>) -> Result
             out.push_reserved(Line::Loaded { birth });
             Ok(())
         }
+        Command::CopyRefs {
+            root,
+            item,
+            from,
+            from_item,
+            count,
+        } => heap.copy_refs(root, item, from, from_item, count),
         Command::MoveRoot { to, from } => heap.move_root(to, from),
         Command::DropRoot { root } => heap.drop_root(root),
         Command::Same { a, b } => {
@@ -72,7 +84,7 @@ fn on_objects(heap: &mut Heap, command: &Command, out: &mut Vec<Line>) -> Result
     }
 }
 
-/// The same of where objects are, and of pins.
+/// The same of identities, of where objects are, and of pins.
 fn on_identity(heap: &mut Heap, command: &Command, out: &mut Vec<Line>) -> Result<(), HeapFault>
     requires can { CanDo heap.old command.now }
     requires alive { heap.old.is_spent ≡ false }
@@ -84,6 +96,16 @@ fn on_identity(heap: &mut Heap, command: &Command, out: &mut Vec<Line>) -> Resul
     ensures cause { IfErr result (λ fault. fault ≡ OutOfMemory) }
 {
     match *command {
+        Command::Ident { root } => {
+            let place = heap.identity(root)?;
+            out.push_reserved(Line::IdentIs { place });
+            Ok(())
+        }
+        Command::Hash { root } => {
+            let value = heap.hash(root)?;
+            out.push_reserved(Line::HashIs { value });
+            Ok(())
+        }
         Command::Place { root } => {
             let place = heap.where_is(root)?;
             out.push_reserved(Line::PlaceIs { place });
@@ -95,6 +117,33 @@ fn on_identity(heap: &mut Heap, command: &Command, out: &mut Vec<Line>) -> Resul
             Ok(())
         }
         Command::Unpin { root } => heap.unpin(root),
+        _ => on_finalizers(heap, command, out),
+    }
+}
+
+/// The same of targets of weak objects, of registrations and of queues.
+fn on_finalizers(heap: &mut Heap, command: &Command, out: &mut Vec<Line>) -> Result<(), HeapFault>
+    requires can { CanDo heap.old command.now }
+    requires alive { heap.old.is_spent ≡ false }
+    requires room { vec_len out.old < vec_capacity out.old }
+    requires rest { is_middle command.now ≡ false }
+    ensures performs { OnOk result (Performs heap.old heap.new command.now out.old.items out.new.items) }
+    ensures err { OnErr result (Keeps heap.old heap.new) }
+    ensures err_out { OnErr result (KeepsFront out.old.items out.new.items) }
+    ensures cause { IfErr result (λ fault. fault ≡ OutOfMemory) }
+{
+    match *command {
+        Command::Deref { to, root } => {
+            let birth = heap.deref(to, root)?;
+            out.push_reserved(Line::Derefed { birth });
+            Ok(())
+        }
+        Command::Register { root, queue } => heap.register(root, queue),
+        Command::NextFinal { to, queue } => {
+            let birth = heap.next_final(to, queue)?;
+            out.push_reserved(Line::NextIs { birth });
+            Ok(())
+        }
         _ => on_structs(heap, command, out),
     }
 }

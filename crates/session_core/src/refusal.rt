@@ -8,7 +8,7 @@ ghost use Rattle.object_model.specs.Sets.{is_in};
 ghost use Rattle.object_model.specs.Shapes.{is_fixed_shape, is_array_shape, is_weak_shape};
 ghost use Rattle.store_model.specs.Births.{words_asked, words_of_type};
 ghost use Rattle.store_model.specs.Checks.{first_reason, setting_checks, type_checks, slots_checks, found_checks, born_checks, int_checks, ref_checks, copy_checks};
-ghost use Rattle.store_model.specs.StructChecks.{weak_checks, unpin_checks, queue_checks, link_checks, struct_checks};
+ghost use Rattle.store_model.specs.StructChecks.{weak_checks, unpin_checks, queue_checks, register_checks, link_checks, struct_checks};
 ghost use Rattle.store_model.specs.Refusal.{checks_in_range};
 ghost use Rattle.store_model.specs.Unbuilt.{is_unbuilt, needs_collection, program_checks};
 ghost use Rattle.session_core.specs.Standing.{IsPlaced, setup_of, seen_if, room_seen, types_in, refusal_of};
@@ -126,7 +126,7 @@ impl Session {
             Command::Pin { root } => self.object_refusal(heap, root),
             Command::Unpin { root } => self.unpin_refusal(heap, root),
             Command::Deref { to, root } => self.deref_refusal(heap, to, root),
-            Command::Register { .. } => unreachable!(),
+            Command::Register { root, queue } => self.register_refusal(heap, root, queue),
             Command::NextFinal { to, queue } => self.next_refusal(to, queue),
             Command::MakeLink {
                 p,
@@ -232,6 +232,25 @@ impl Session {
             return Some(reason);
         }
         weak_refusal(self.kind_in(heap, root))
+    }
+
+    /// Of an object that is to be registered.
+    fn register_refusal(&self, heap: &Heap, root: u32, queue: u64) -> Option<Reason>
+        requires { IsPlaced self.now heap.now }
+        ensures { let seen = seen_if self.now.types heap.now in
+            result ≡ first_reason (slots_checks self.now.settings.roots (root ∷ []) ++ (found_checks (seen.kind root)
+            ++ (queue_checks self.now.settings.queues queue ++ register_checks (seen.was_registered root)))) }
+    {
+        if let Some(reason) = self.object_refusal(heap, root) {
+            return Some(reason);
+        }
+        if let Some(reason) = queue_refusal(self.settings.queues, queue) {
+            return Some(reason);
+        }
+        if self.was_registered(heap, root) {
+            return Some(Reason::Registered);
+        }
+        None
     }
 
     /// Of a slot for what comes next from a queue.
@@ -360,15 +379,6 @@ fn is_unbuilt(command: &Command) -> bool
 {
     matches!(
         *command,
-        Command::NewWeak { .. }
-            | Command::CopyRefs { .. }
-            | Command::Ident { .. }
-            | Command::Hash { .. }
-            | Command::Deref { .. }
-            | Command::Register { .. }
-            | Command::NextFinal { .. }
-            | Command::Minor
-            | Command::Step
-            | Command::Collect
+        Command::Minor | Command::Step | Command::Collect
     )
 }

@@ -76,6 +76,17 @@ impl Session {
         }
     }
 
+    /// Whether the object in a slot is registered, or waits for its queue or in it.
+    pub(crate) fn was_registered(&self, heap: &Heap, root: u32) -> bool
+        requires { IsPlaced self.now heap.now }
+        ensures { result ≡ (seen_if self.now.types heap.now).was_registered root }
+    {
+        match &self.types {
+            None => heap.was_registered(root),
+            Some(_) => false,
+        }
+    }
+
     /// Whether the object in a slot has a P link.
     pub(crate) fn has_p_link(&self, heap: &Heap, root: u32) -> bool
         requires { IsPlaced self.now heap.now }
