@@ -1,5 +1,5 @@
 -- What calls that tell homes do.
-use Rattle.std.proofs.Common.{◌≡◌, ◌≢◌, ℕ, ◌^◌, ◌<◌, ◌≤◌, [], ◌∷◌, Option, Some, None, Result, Ok, Err, IfOk, OnErr, refl, sym, ap, ◌∙◌, subst, arith}
+use Rattle.std.proofs.Common.{◌≡◌, ◌≢◌, ℕ, ◌^◌, ◌<◌, ◌≤◌, [], ◌∷◌, Some, None, Result, Ok, Err, IfOk, OnErr, refl, sym, ap, ◌∙◌, subst, arith}
 use Rattle.std.specs.FinMap as map_of
 use Rattle.std.specs.declared.alloc.AllocError.{AllocError}
 use Rattle.type_table.specs.Table.{value_at, with_value}
@@ -9,7 +9,6 @@ use Rattle.object_header.specs.Words.{with_flag}
 use Rattle.object_header.specs.declared.flags.Flag.TheVariants.{HasShadow}
 use Rattle.text_model.specs.declared.command.Command.TheVariants.{Ident, Hash}
 use Rattle.text_model.specs.declared.line.Line.TheVariants.{IdentIs, HashIs}
-use Rattle.store_model.specs.Store.{Store}
 use Rattle.store_model.specs.Identity.{hash_of}
 use Rattle.store_model.specs.Steps.{Does}
 use Rattle.heap_parts.specs.Parts.{HeapParts, word_in, place_in, home_in}

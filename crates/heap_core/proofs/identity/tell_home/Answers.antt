@@ -1,8 +1,8 @@
-use Rattle.std.proofs.Common.{◌≡◌, ℕ, ◌<◌, ◌≤◌, None, IfOk, sym, ap, ◌∙◌, subst}
+use Rattle.std.proofs.Common.{ℕ, IfOk, sym, ap, ◌∙◌, subst}
 use Rattle.heap_parts.specs.Parts.{HeapParts, place_in, home_in}
 use Rattle.heap_parts.specs.Homes.{CanReserve, ReservesHome}
-use Rattle.heap_core.specs.Telling.{NeedsHome, PartsTell}
-use Rattle.heap_core.proofs.IdentityCalls.{below-as, above-as}
+use Rattle.heap_core.specs.Telling.{PartsTell}
+use Rattle.heap_core.proofs.IdentityCalls.{above-as}
 use Rattle.heap_core.proofs.TellCalls.{tells_place, tells_again, can_reserve, needs_home, on_reserved, on_none}
 use Rattle.heap_core.proofs.identity.tell_home.Goals as goal
 
