@@ -255,6 +255,6 @@ on_ok (Ok u) f p = f p
 on_ok (Err e) f p = tt
 
 -- what holds whatever a call answered
-pub on_err : {E P : Type 0} (r : Result (Unit {0}) E) → P → OnErr r P
+pub on_err : {X E P : Type 0} (r : Result X E) → P → OnErr r P
 on_err (Ok u) p = tt
 on_err (Err e) p = p

@@ -4,7 +4,7 @@ use Rattle.std.specs.Prelude.{nat_le, is_none}
 use Rattle.std.proofs.lemmas.Bool.Decides.{eqb_tells}
 use Rattle.type_table.specs.declared.info.TypeInfo.{TypeInfo}
 use Rattle.type_table.specs.Table.{Table}
-use Rattle.text_model.specs.declared.command.Command.TheVariants.{Place}
+use Rattle.text_model.specs.declared.command.Command.TheVariants.{Ident, Hash, Place}
 use Rattle.text_model.specs.declared.item.Reason.{Reason}
 use Rattle.text_model.specs.declared.item.Reason.TheVariants.{NoRoot, NilRoot, NotBuilt, Range}
 use Rattle.text_model.specs.Range.{is_above}
@@ -40,3 +40,9 @@ full_slot heap root above rest standing e =
 
 pub place_ready : (heap : HeapParts) (root : ℕ) → AreReady heap (Place root) → FullSlot heap root
 place_ready heap root ready = (full_slot heap root (is_above (Place root)) _ ready.standing ready.accepted).0
+
+pub ident_ready : (heap : HeapParts) (root : ℕ) → AreReady heap (Ident root) → FullSlot heap root
+ident_ready heap root ready = (full_slot heap root (is_above (Ident root)) _ ready.standing ready.accepted).0
+
+pub hash_ready : (heap : HeapParts) (root : ℕ) → AreReady heap (Hash root) → FullSlot heap root
+hash_ready heap root ready = (full_slot heap root (is_above (Hash root)) _ ready.standing ready.accepted).0

@@ -18,6 +18,7 @@ use Rattle.store_model.specs.Store.{Store}
 use Rattle.store_model.specs.Identity.{TellsHome}
 use Rattle.heap_parts.specs.Parts.{HeapParts, word_in, place_in, home_in}
 use Rattle.heap_parts.specs.Births.{TakesBlock}
+use Rattle.heap_parts.specs.Homes.{shadow_word}
 use Rattle.heap_parts.specs.Headers.{IsYoungHeader, IsShadowHeader}
 use Rattle.heap_parts.specs.OldSpace.{blocks_of, reserved_blocks}
 use Rattle.heap_parts.specs.Places.{is_young, young_places, old_places, block_at}
@@ -34,10 +35,6 @@ use Rattle.heap_parts.proofs.SpareLaws.{take_keeps, spare_keeps, word_within}
 use Rattle.heap_parts.proofs.ReserveLaws.{with_home, reserve_stands, found-in}
 use Rattle.store_model.proofs.HomeSound.{home_sound}
 use Rattle.heap_core.proofs.HomeTold.{home_told, new_tells}
-
--- the first word of a home that is reserved
-abbrev pub shadow_word : ℕ
-shadow_word = with_flag 0 Shadow
 
 no-flags : (f : Flag) → has_flag 0 f ≡ false
 unfolding has_flag

@@ -16,3 +16,4 @@ pub mod IdentityCalls
 pub mod PinReady
 pub mod PinCalls
 pub mod HomeReserved
+pub mod TellCalls
