@@ -16,3 +16,5 @@ pub mod IdentityCalls
 pub mod PinReady
 pub mod PinCalls
 pub mod HomeReserved
+pub mod WeakReady
+pub mod WeakCalls
