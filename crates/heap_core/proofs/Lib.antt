@@ -18,3 +18,4 @@ pub mod PinCalls
 pub mod HomeReserved
 pub mod WeakReady
 pub mod WeakCalls
+pub mod WeakBearLaws
