@@ -16,6 +16,7 @@ use Rattle.text_model.specs.declared.item.Reason.TheVariants.{NotBuilt, WrongSha
 use Rattle.text_model.specs.declared.line.Line.{Line}
 use Rattle.text_model.specs.declared.line.Line.TheVariants.{Born}
 use Rattle.object_model.specs.Setup.{young_words}
+use Rattle.object_model.specs.Newborn.{Request}
 use Rattle.object_model.specs.Shapes.{is_fixed_shape, is_array_shape, is_weak_shape}
 use Rattle.store_model.specs.Store.{Store, unsettled_words, counted_words}
 use Rattle.store_model.specs.Checks.{first_reason, born_checks}
@@ -29,7 +30,7 @@ use Rattle.heap_parts.specs.Told.{room_told}
 use Rattle.heap_parts.specs.StandsFor.{PartsStandFor}
 use Rattle.heap_parts.specs.Births.{HasNurseryRoom, HasOldRoom, BearsYoung, BearsOld}
 use Rattle.heap_core.specs.Commands.{AreStanding, AreReady}
-use Rattle.heap_core.specs.Bearing.{PartsAppend, IsFitting, MayBear, Bears, BearsKnown}
+use Rattle.heap_core.specs.Bearing.{PartsAppend, IsFitting, MayBear, BearsKnown}
 use Rattle.nursery_gaps.specs.Ranges.{Range as NurseryRange, AreRising}
 use Rattle.heap_core.proofs.Ready.{passed, one_slot, or_false}
 use Rattle.heap_core.proofs.LookLaws.{counted_told}
@@ -68,10 +69,10 @@ birth_passed (Some info) heap test root type_id items standing found plain l few
     let shaped = passed (not (test info.shape)) WrongShape _ e in
     let room = or_false (nat_lt settings.nursery (heap.unsettled + heap.fresh + n)) (nat_lt settings.limit (heap.unsettled + heap.old_words + n)) (passed _ NotBuilt None shaped.1).0 in record {
       info = info;
+      plain = plain info.shape (not-false (test info.shape) shaped.0);
       fits = record {
         standing = standing;
         known = found;
-        plain = plain info.shape (not-false (test info.shape) shaped.0);
         root_in = l;
         items_few = few;
         nursery = ltb-false settings.nursery (heap.unsettled + heap.fresh + n) room.0;
@@ -95,6 +96,12 @@ pub fits_found : (heap : HeapParts) (root type_id items : ℕ) (info : TypeInfo)
 fits_found heap root type_id items info may found =
     let both : Some may.info ≡ Some info = sym may.fits.known ∙ found in
     let same : may.info ≡ info = cc in subst (λ (k : TypeInfo). IsFitting heap root type_id k items) same may.fits
+
+-- and it is not weak
+plain_found : (heap : HeapParts) (root type_id items : ℕ) (info : TypeInfo) → MayBear heap root type_id items → value_at heap.setup.types type_id ≡ Some info → is_weak_shape info.shape ≡ false
+plain_found heap root type_id items info may found =
+    let both : Some may.info ≡ Some info = sym may.fits.known ∙ found in
+    let same : may.info ≡ info = cc in subst (λ (k : TypeInfo). is_weak_shape k.shape ≡ false) same may.plain
 
 rising-least : (from to : ℕ) (ranges : List NurseryRange) → AreRising from to ranges → from ≤ to
 rising-least from to [] r = r
@@ -126,37 +133,41 @@ old_room heap root type_id items info f =
       fresh_small = omega (arith, room, most, fresh);
     }
 
-can_bear : (heap : HeapParts) (root type_id items birth : ℕ) (info : TypeInfo) → IsFitting heap root type_id info items → type_id < 65536 → birth ≡ heap.next → birth ≤ 9223372036854775806
-    → CanBear heap type_id info items
-can_bear heap root type_id items birth info f small is low = record { known = f.known; small = small; plain = f.plain; limit = f.limit; next = omega (arith, is, low) }
+-- what a birth needs beside room
+pub can_bear : (heap : HeapParts) (root type_id items birth : ℕ) (info : TypeInfo) (weak : Bool) → IsFitting heap root type_id info items → is_weak_shape info.shape ≡ weak
+    → type_id < 65536 → birth ≡ heap.next → birth ≤ 9223372036854775806 → CanBear weak heap type_id info items
+can_bear heap root type_id items birth info weak f kind small is low = record { known = f.known; small = small; kind = kind; limit = f.limit; next = omega (arith, is, low) }
 
 -- an object was born in the nursery
-pub bears_young : (heap new : HeapParts) (root type_id items birth : ℕ) (info : TypeInfo) (before after : List Line) → IsFitting heap root type_id info items → type_id < 65536
-    → birth ≡ heap.next → birth ≤ 9223372036854775806 → words_in info.shape items ≤ young_words heap.setup.settings → BearsYoung heap new root type_id info items
+pub bears_young : (heap new : HeapParts) (root type_id items birth : ℕ) (info : TypeInfo) (before after : List Line) → MayBear heap root type_id items
+    → value_at heap.setup.types type_id ≡ Some info → type_id < 65536
+    → birth ≡ heap.next → birth ≤ 9223372036854775806 → words_in info.shape items ≤ young_words heap.setup.settings → BearsYoung heap new root type_id info items 0
     → after ≡ before ++ Born birth false ∷ [] → BearsKnown heap new root type_id items before after
-bears_young heap new root type_id items birth info before after f small is low few b appended = record {
+bears_young heap new root type_id items birth info before after may found small is low few b appended = record {
   info = info;
-  known = f.known;
+  known = found;
   bears = record {
     setup = ap (λ (h : HeapParts). h.setup) b.is;
     is_old = false;
     large = λ more. absurd (let no : ⊥ = omega (arith, more, few) in no);
     small = λ l g. refl;
     appended = appended ∙ ap (λ (k : ℕ). before ++ Born k false ∷ []) is;
-    stands = λ store s. young_stands heap new store root type_id items info s (can_bear heap root type_id items birth info f small is low) b;
+    stands = λ store s. young_stands heap new store root type_id items info s
+        (can_bear heap root type_id items birth info false (fits_found heap root type_id items info may found) (plain_found heap root type_id items info may found) small is low) b;
   };
 }
 
 -- and outside it
-pub bears_old : (heap mid new : HeapParts) (root type_id items birth : ℕ) (info : TypeInfo) (before after : List Line) → IsFitting heap root type_id info items → type_id < 65536
-    → birth ≡ heap.next → birth ≤ 9223372036854775806
+pub bears_old : (heap mid new : HeapParts) (root type_id items birth : ℕ) (info : TypeInfo) (before after : List Line) → MayBear heap root type_id items
+    → value_at heap.setup.types type_id ≡ Some info → type_id < 65536 → birth ≡ heap.next → birth ≤ 9223372036854775806
     → (words_in info.shape items ≤ young_words heap.setup.settings → (place : ℕ) → Fits heap.nursery (words_in info.shape items) place → ⊥)
-    → mid ≡ heap → BearsOld mid new root type_id info items
+    → mid ≡ heap → BearsOld mid new root type_id info items 0
     → after ≡ before ++ Born birth true ∷ [] → BearsKnown heap new root type_id items before after
-bears_old heap mid new root type_id items birth info before after f small is low full same born appended =
-    let b : BearsOld heap new root type_id info items = subst (λ (h : HeapParts). BearsOld h new root type_id info items) same born in record {
+bears_old heap mid new root type_id items birth info before after may found small is low full same born appended =
+    let f = fits_found heap root type_id items info may found in
+    let b : BearsOld heap new root type_id info items 0 = subst (λ (h : HeapParts). BearsOld h new root type_id info items 0) same born in record {
       info = info;
-      known = f.known;
+      known = found;
       bears = record {
         setup = ap (λ (h : HeapParts). h.setup) b.is ∙ ap (λ (h : HeapParts). h.setup) b.takes.keeps.only;
         is_old = true;
@@ -165,7 +176,8 @@ bears_old heap mid new root type_id items birth info before after f small is low
             let s = f.standing.stands in let room = f.nursery in
             full few heap.nursery.cursor (room_ungapped heap f.standing.store s (words_in info.shape items) ungapped (omega (arith, room))));
         appended = appended ∙ ap (λ (k : ℕ). before ++ Born k true ∷ []) is;
-        stands = λ store s. old_stands heap new store root type_id items info s (can_bear heap root type_id items birth info f small is low) b;
+        stands = λ store s. old_stands heap new store root type_id items info s
+            (can_bear heap root type_id items birth info false f (plain_found heap root type_id items info may found) small is low) b;
       };
     }
 
@@ -188,21 +200,22 @@ no_collection heap store s n nursery limit =
       printed = refl;
     }
 
--- the birth is the command's
-births_as : (heap new : HeapParts) (root type_id items : ℕ) (info : TypeInfo) (before after : List Line) → IsFitting heap root type_id info items
-    → (b : Bears heap new root type_id info items before after) (store : Store) → PartsStandFor heap store
-    → BirthWithRoom heap.setup info store (array_request root type_id items) (Born heap.next b.is_old ∷ []) (with_birth b.is_old store info (array_request root type_id items))
-births_as heap new root type_id items info before after f b store s = record {
+-- the birth that is asked for is one within room
+pub birth_with_room : (heap : HeapParts) (store : Store) (request : Request) (info : TypeInfo) (is_old : Bool) → IsFitting heap request.slot request.type_id info request.items → PartsStandFor heap store
+    → (young_words heap.setup.settings < words_in info.shape request.items → is_old ≡ true)
+    → (words_in info.shape request.items ≤ young_words heap.setup.settings → heap.gapped ≡ false → is_old ≡ false)
+    → BirthWithRoom heap.setup info store request (Born heap.next is_old ∷ []) (with_birth is_old store info request)
+birth_with_room heap store request info is_old f s large small = record {
   mid = store;
   before = [];
-  own = Born heap.next b.is_old ∷ [];
-  made_room = no_collection heap store s (words_in info.shape items) f.nursery f.limit;
+  own = Born heap.next is_old ∷ [];
+  made_room = no_collection heap store s (words_in info.shape request.items) f.nursery f.limit;
   fits = (let counted = counted_told heap store s in let limit = f.limit in omega (arith, counted, limit));
   born = record {
-    is_old = b.is_old;
-    large = b.large;
-    small = λ l gapped. b.small l (sym s.counts.gapped_is ∙ gapped);
-    printed = ap (λ (k : ℕ). Born k b.is_old ∷ []) (sym s.counts.next_is);
+    is_old = is_old;
+    large = large;
+    small = λ l gapped. small l (sym s.counts.gapped_is ∙ gapped);
+    printed = ap (λ (k : ℕ). Born k is_old ∷ []) (sym s.counts.next_is);
     leaves = refl;
   };
   printed = refl;
@@ -215,7 +228,7 @@ births_of heap new root type_id items before after may b store s =
     let f = fits_found heap root type_id items b.info may b.known in
     subst (λ (found : Option TypeInfo). BirthWithRoomOf found heap.setup store (array_request root type_id items) (Born heap.next b.bears.is_old ∷ [])
     (with_birth b.bears.is_old store b.info (array_request root type_id items))) (sym b.known)
-    (births_as heap new root type_id items b.info before after f b.bears store s)
+    (birth_with_room heap store (array_request root type_id items) b.info b.bears.is_old f s b.bears.large b.bears.small)
 
 pub fixed_does : (heap new : HeapParts) (root type_id : ℕ) (before after : List Line) → AreReady heap (NewFixed root type_id) → BearsKnown heap new root type_id 0 before after
     → PartsAppend heap new (NewFixed root type_id) before after

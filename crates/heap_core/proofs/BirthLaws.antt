@@ -23,7 +23,8 @@ use Rattle.object_model.specs.Layout.{layout_of}
 use Rattle.object_model.specs.Newborn.{Request}
 use Rattle.object_model.specs.Shapes.{is_weak_shape}
 use Rattle.object_model.specs.ObjectWords.{words_at}
-use Rattle.object_view.proofs.NewbornLaws.{request-plain}
+use Rattle.object_model.specs.Holds.{IsPointer}
+use Rattle.object_view.proofs.NewbornLaws.{request_for, request-plain}
 use Rattle.old_space.specs.declared.Old.{Old}
 use Rattle.size_pages.specs.Calls.{page_of}
 use Rattle.rawref_links.proofs.Numbers.{Contains-from_is_in}
@@ -49,42 +50,53 @@ use Rattle.heap_parts.proofs.TakeLaws.{MemoryKeeps}
 use Rattle.heap_parts.proofs.HomeStands.{none_stands}
 use Rattle.heap_core.specs.Commands.{PartsKeep}
 
--- what a birth of an object that is not weak needs beside room
-pub record CanBear (heap : HeapParts) (type_id : ℕ) (info : TypeInfo) (items : ℕ) : Type 0 where
+-- what a birth needs beside room, of an object that is weak or not
+pub record CanBear (weak : Bool) (heap : HeapParts) (type_id : ℕ) (info : TypeInfo) (items : ℕ) : Type 0 where
   pub known : value_at heap.setup.types type_id ≡ Some info
   pub small : type_id < 65536
-  pub plain : is_weak_shape info.shape ≡ false
+  pub kind : is_weak_shape info.shape ≡ weak
   pub limit : heap.unsettled + heap.old_words + words_in info.shape items ≤ heap.setup.settings.limit
   pub next : heap.next + 1 < 2 ^ 63
 
--- An object is born in the nursery.
-pub young_stands : (heap new : HeapParts) (store : Store) (root type_id items : ℕ) (info : TypeInfo) (s : PartsStandFor heap store) → CanBear heap type_id info items
-    → BearsYoung heap new root type_id info items → PartsStandFor new (with_birth false store info (array_request root type_id items))
-young_stands heap new store root type_id items info s can b =
+-- An object is born in the nursery, and listed where it is weak.
+pub young_born : (heap new : HeapParts) (store : Store) (root type_id items x : ℕ) (info : TypeInfo) (weak : Bool) (s : PartsStandFor heap store) → CanBear weak heap type_id info items
+    → IsPointer s.places x → (b : BearsYoung heap new root type_id info items x)
+    → PartsStandFor (record new { weaks = weaks_with weak heap.weaks b.place }) (with_birth false store info (request_for s.name root type_id items info.shape x))
+young_born heap new store root type_id items x info weak s can target b =
     let n : ℕ = words_in info.shape items in let place : ℕ = b.place in
     let low : place < 4294967296 = (let inside = b.lowest.fits.inside in let words = s.made.words in let most = s.made.ranges.1 in omega (arith, inside, words, most)) in
     let young : is_young place ≡ true = grind (arith, nat_tests) in
-    let memory : Memory = born_memory heap place type_id items 0 info in
+    let memory : Memory = born_memory heap place type_id items x info in
     let made : with_born heap memory b.nursery heap.old_blocks place root info n
-    ≡ record (with_newborn heap place type_id root info items) { nursery = b.nursery; unsettled = heap.unsettled + n } = λ i. record (with_newborn heap place type_id root info items) {
+    ≡ record (with_newborn heap place type_id root info items x) { nursery = b.nursery; weaks = weaks_with weak heap.weaks place; unsettled = heap.unsettled + n } = λ i.
+    record (with_newborn heap place type_id root info items x) {
       nursery = b.nursery;
-      weaks = weaks_with (can.plain i) heap.weaks place;
+      weaks = weaks_with (can.kind i) heap.weaks place;
       unsettled = unsettled_with (not (young i)) heap.unsettled n;
       old_words = fresh_with (not (young i)) heap.old_words n;
       fresh = fresh_with (not (young i)) heap.fresh n;
     } in
-    subst (λ (h : HeapParts). PartsStandFor h (with_birth false store info (array_request root type_id items))) (made ∙ sym b.is)
-    (subst (λ (r : Request). PartsStandFor (with_born heap memory b.nursery heap.old_blocks place root info n) (with_birth false store info r)) (request-plain s.name root type_id items info.shape)
-    (young_birth_stands heap store s place b.nursery root type_id items 0 info (record {
+    subst (λ (h : HeapParts). PartsStandFor h (with_birth false store info (request_for s.name root type_id items info.shape x)))
+    (made ∙ ap (λ (h : HeapParts). record h { weaks = weaks_with weak heap.weaks place }) (sym b.is))
+    (young_birth_stands heap store s place b.nursery root type_id items x info (record {
       known = can.known;
       small = can.small;
-      target = inl refl;
+      target = target;
       lowest = b.lowest;
       hands = b.hands;
       laid = b.laid;
       limit = can.limit;
       next = can.next;
-    })))
+    }))
+
+-- an object that is not weak is born in the nursery
+pub young_stands : (heap new : HeapParts) (store : Store) (root type_id items : ℕ) (info : TypeInfo) (s : PartsStandFor heap store) → CanBear false heap type_id info items
+    → BearsYoung heap new root type_id info items 0 → PartsStandFor new (with_birth false store info (array_request root type_id items))
+young_stands heap new store root type_id items info s can b =
+    subst (λ (h : HeapParts). PartsStandFor h (with_birth false store info (array_request root type_id items)))
+    (ap (λ (h : HeapParts). record h { weaks = heap.weaks }) b.is ∙ sym b.is)
+    (subst (λ (r : Request). PartsStandFor (record new { weaks = heap.weaks }) (with_birth false store info r)) (request-plain s.name root type_id items info.shape)
+    (young_born heap new store root type_id items 0 info false s can (inl refl) b))
 
 -- the header of an object that is born outside the nursery, by its flags
 flags-of : (type_id : ℕ) (cards : Bool) (f : Flag) → f ≢ Track → f ≢ HasCards → type_id < 65536 → has_flag (old_header type_id cards) f ≡ false
@@ -146,10 +158,11 @@ not-waiting page old_blocks waiting place is elsewhere = elim (cases_Bool (is_wa
   | inr out ↦ out
 ]
 
--- An object is born outside the nursery.
-pub old_stands : (heap new : HeapParts) (store : Store) (root type_id items : ℕ) (info : TypeInfo) (s : PartsStandFor heap store) → CanBear heap type_id info items
-    → BearsOld heap new root type_id info items → PartsStandFor new (with_birth true store info (array_request root type_id items))
-old_stands heap new store root type_id items info s can b =
+-- An object is born outside the nursery, and listed where it is weak.
+pub old_born : (heap new : HeapParts) (store : Store) (root type_id items x : ℕ) (info : TypeInfo) (weak : Bool) (s : PartsStandFor heap store) → CanBear weak heap type_id info items
+    → IsPointer s.places x → (b : BearsOld heap new root type_id info items x)
+    → PartsStandFor (record new { weaks = weaks_with weak heap.weaks b.place }) (with_birth true store info (request_for s.name root type_id items info.shape x))
+old_born heap new store root type_id items x info weak s can target b =
     let n : ℕ = words_in info.shape items in let place : ℕ = b.place in let middle : HeapParts = b.middle in
     let head : ℕ = old_header type_id (keeps_cards heap.setup.settings.card info.shape items) in
     let keeps = b.takes.keeps in
@@ -161,22 +174,25 @@ old_stands heap new store root type_id items info s can b =
     not-waiting heap.setup.settings.page middle.old_blocks s.waiting place (keeps.page ∙ s.made.page) (b.takes.elsewhere live s.waiting s.words.blocks) in
     let low : 4294967296 ≤ place = (HasBlocks-first middle.old_blocks middle.memory (place, n) live s.waiting (b.takes.taken live s.waiting s.words.blocks)).low in
     let old : is_young place ≡ false = grind (arith, nat_tests) in
-    let memory : Memory = old_memory middle.memory place head items 0 info heap.next in
+    let memory : Memory = old_memory middle.memory place head items x info heap.next in
     let made : with_born heap memory heap.nursery middle.old_blocks place root info n
-    ≡ record (with_newborn (with_old_blocks heap middle.old_blocks middle.memory) place head root info items) { old_words = heap.old_words + n; fresh = heap.fresh + n } = λ i.
-    record (with_newborn (with_old_blocks heap middle.old_blocks middle.memory) place head root info items) {
-      weaks = weaks_with (can.plain i) heap.weaks place;
+    ≡ record (with_newborn (with_old_blocks heap middle.old_blocks middle.memory) place head root info items x) {
+      weaks = weaks_with weak heap.weaks place;
+      old_words = heap.old_words + n;
+      fresh = heap.fresh + n;
+    } = λ i. record (with_newborn (with_old_blocks heap middle.old_blocks middle.memory) place head root info items x) {
+      weaks = weaks_with (can.kind i) heap.weaks place;
       unsettled = unsettled_with (not (old i)) heap.unsettled n;
       old_words = fresh_with (not (old i)) heap.old_words n;
       fresh = fresh_with (not (old i)) heap.fresh n;
     } in
-    let back : record (with_newborn (with_old_blocks heap middle.old_blocks middle.memory) place head root info items) { old_words = heap.old_words + n; fresh = heap.fresh + n } ≡ new =
-    ap (λ (h : HeapParts). record (with_newborn h place head root info items) { old_words = h.old_words + n; fresh = h.fresh + n }) (sym keeps.only) ∙ sym b.is in
-    subst (λ (h : HeapParts). PartsStandFor h (with_birth true store info (array_request root type_id items))) (made ∙ back)
-    (subst (λ (r : Request). PartsStandFor (with_born heap memory heap.nursery middle.old_blocks place root info n) (with_birth true store info r)) (request-plain s.name root type_id items info.shape)
-    (old_birth_stands heap store s middle.memory middle.old_blocks place head root type_id items 0 info (record {
+    let back : record (with_newborn (with_old_blocks heap middle.old_blocks middle.memory) place head root info items x) { old_words = heap.old_words + n; fresh = heap.fresh + n } ≡ new =
+    ap (λ (h : HeapParts). record (with_newborn h place head root info items x) { old_words = h.old_words + n; fresh = h.fresh + n }) (sym keeps.only) ∙ sym b.is in
+    subst (λ (h : HeapParts). PartsStandFor h (with_birth true store info (request_for s.name root type_id items info.shape x)))
+    (made ∙ ap (λ (h : HeapParts). record h { weaks = weaks_with weak heap.weaks place }) back)
+    (old_birth_stands heap store s middle.memory middle.old_blocks place head root type_id items x info (record {
       known = can.known;
-      target = inl refl;
+      target = target;
       keeps = taken;
       elsewhere = elsewhere;
       type = type-of type_id (keeps_cards heap.setup.settings.card info.shape items) can.small;
@@ -184,7 +200,20 @@ old_stands heap new store root type_id items info s can b =
       made = (keeps.arenas, keeps.small, keeps.page);
       limit = can.limit;
       next = can.next;
-    })))
+    }))
+
+-- what is listed stays when an object is born outside the nursery
+pub old_listed : {heap new : HeapParts} {root type_id items x : ℕ} {info : TypeInfo} → BearsOld heap new root type_id info items x → new.weaks ≡ heap.weaks
+old_listed b = ap (λ (h : HeapParts). h.weaks) b.is ∙ ap (λ (h : HeapParts). h.weaks) b.takes.keeps.only
+
+-- an object that is not weak is born outside the nursery
+pub old_stands : (heap new : HeapParts) (store : Store) (root type_id items : ℕ) (info : TypeInfo) (s : PartsStandFor heap store) → CanBear false heap type_id info items
+    → BearsOld heap new root type_id info items 0 → PartsStandFor new (with_birth true store info (array_request root type_id items))
+old_stands heap new store root type_id items info s can b =
+    subst (λ (h : HeapParts). PartsStandFor h (with_birth true store info (array_request root type_id items)))
+    (ap (λ (ws : List ℕ). record new { weaks = ws }) (sym (old_listed b)))
+    (subst (λ (r : Request). PartsStandFor (record new { weaks = heap.weaks }) (with_birth true store info r)) (request-plain s.name root type_id items info.shape)
+    (old_born heap new store root type_id items 0 info false s can (inl refl) b))
 
 -- No block was taken: the parts stand for the same stores.
 pub none_keeps : (heap new : HeapParts) → TakesNone heap new → PartsKeep heap new

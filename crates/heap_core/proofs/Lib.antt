@@ -17,3 +17,6 @@ pub mod PinReady
 pub mod PinCalls
 pub mod HomeReserved
 pub mod TellCalls
+pub mod WeakReady
+pub mod WeakCalls
+pub mod WeakBearLaws

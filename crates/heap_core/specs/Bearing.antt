@@ -21,19 +21,19 @@ pub record PartsAppend (old new : HeapParts) (command : Command) (before after :
   pub appended : after ≡ before ++ lines
   pub does : PartsDo old new command lines
 
--- an object of the type, which is not weak, may be born: no collection is needed for it
+-- an object of the type may be born: no collection is needed for it
 pub record IsFitting (heap : HeapParts) (root type_id : ℕ) (info : TypeInfo) (items : ℕ) : Type 0 where
   pub standing : AreStanding heap
   pub known : value_at heap.setup.types type_id ≡ Some info
-  pub plain : is_weak_shape info.shape ≡ false
   pub root_in : root < heap.setup.settings.roots
   pub items_few : items ≤ 16777216
   pub nursery : heap.unsettled + heap.fresh + words_in info.shape items ≤ heap.setup.settings.nursery
   pub limit : heap.unsettled + heap.old_words + words_in info.shape items ≤ heap.setup.settings.limit
 
--- and so may one of a type that is there
+-- and so may one of a type that is there, and not weak
 pub record MayBear (heap : HeapParts) (root type_id items : ℕ) : Type 0 where
   pub info : TypeInfo
+  pub plain : is_weak_shape info.shape ≡ false
   pub fits : IsFitting heap root type_id info items
 
 -- An object of the type is born, and its line is appended: old where it has more words than an object of the nursery may have,

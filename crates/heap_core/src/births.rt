@@ -17,8 +17,8 @@ use std::alloc::AllocError;
 use text_model::Line;
 use type_table::{TypeInfo, words};
 
-// The greatest birth.
-const LAST_BIRTH: u64 = (1 << 63) - 2;
+/// The greatest birth.
+pub(crate) const LAST_BIRTH: u64 = (1 << 63) - 2;
 
 impl Heap {
     /// An object of a fixed type is born for a slot, its numbers 0 and its references nil, and its line is appended. An
@@ -123,7 +123,7 @@ fn bear(
         out.push_reserved(Line::Born { birth, old: false });
         return Ok(());
     }
-    parts.bear_old(root, type_id, info, items)?;
+    parts.bear_old(root, type_id, info, items, 0)?;
     out.push_reserved(Line::Born { birth, old: true });
     Ok(())
 }
@@ -131,7 +131,7 @@ fn bear(
 /// An object is born in the nursery, if it is not too large for that, and there is room. Else nothing changes.
 fn try_young(parts: &mut Parts, root: u32, type_id: u16, info: TypeInfo, items: u64) -> bool
     requires { IsFitting parts.old root type_id info items }
-    ensures bears { IsTrue result → BearsYoung parts.old parts.new root type_id info items }
+    ensures bears { IsTrue result → BearsYoung parts.old parts.new root type_id info items 0 }
     ensures small { IsTrue result → words_in info.shape items ≤ young_words parts.old.setup.settings }
     ensures same { IsFalse result → parts.new ≡ parts.old }
     ensures full { IsFalse result → words_in info.shape items ≤ young_words parts.old.setup.settings → (place : ℕ) → ¬ Fits parts.old.nursery (words_in info.shape items) place }
@@ -139,5 +139,5 @@ fn try_young(parts: &mut Parts, root: u32, type_id: u16, info: TypeInfo, items: 
     if words(info, items) > parts.young_words() {
         return false;
     }
-    parts.bear_young(root, type_id, info, items)
+    parts.bear_young(root, type_id, info, items, 0)
 }

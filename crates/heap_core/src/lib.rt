@@ -11,6 +11,7 @@ mod slots;
 mod structures;
 mod tellers;
 mod usage;
+mod weak;
 
 pub use fault::HeapFault;
 pub use heap::Heap;

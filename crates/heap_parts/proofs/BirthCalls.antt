@@ -31,18 +31,18 @@ young_room heap nursery place n root info items room size lowest =
     }
 
 -- an object is born there
-pub bears_young : (heap mid new : HeapParts) (nursery : NurseryLayout) (place n root type_id : ℕ) (info : TypeInfo) (items : ℕ) → n ≡ words_in info.shape items
+pub bears_young : (heap mid new : HeapParts) (nursery : NurseryLayout) (place n root type_id : ℕ) (info : TypeInfo) (items target : ℕ) → n ≡ words_in info.shape items
     → FitsLowest heap.nursery n place → HandsOut heap.nursery n place nursery → IsLaidOut nursery
-    → mid ≡ record heap { nursery = nursery } → new ≡ with_newborn mid place type_id root info items
-    → BearsYoung heap (record new { unsettled = new.unsettled + n }) root type_id info items
-bears_young heap mid new nursery place n root type_id info items size lowest hands laid mid_is is = record {
+    → mid ≡ record heap { nursery = nursery } → new ≡ with_newborn mid place type_id root info items target
+    → BearsYoung heap (record new { unsettled = new.unsettled + n }) root type_id info items target
+bears_young heap mid new nursery place n root type_id info items target size lowest hands laid mid_is is = record {
   place = place;
   nursery = nursery;
   lowest = subst (λ (k : ℕ). FitsLowest heap.nursery k place) size lowest;
   hands = subst (λ (k : ℕ). HandsOut heap.nursery k place nursery) size hands;
   laid = laid;
-  is = ap (λ (h : HeapParts). record h { unsettled = h.unsettled + n }) (is ∙ ap (λ (h : HeapParts). with_newborn h place type_id root info items) mid_is)
-      ∙ ap (λ (k : ℕ). record (with_newborn heap place type_id root info items) { nursery = nursery; unsettled = heap.unsettled + k }) size;
+  is = ap (λ (h : HeapParts). record h { unsettled = h.unsettled + n }) (is ∙ ap (λ (h : HeapParts). with_newborn h place type_id root info items target) mid_is)
+      ∙ ap (λ (k : ℕ). record (with_newborn heap place type_id root info items target) { nursery = nursery; unsettled = heap.unsettled + k }) size;
 }
 
 -- what a call for a block leaves
@@ -84,16 +84,16 @@ taken_room heap middle n place root info items room size taken =
     }
 
 -- an object is born there, and its words are counted
-pub bears_old : (heap middle new : HeapParts) (n place root type_id head : ℕ) (info : TypeInfo) (items : ℕ) → TakesBlock heap middle n place
+pub bears_old : (heap middle new : HeapParts) (n place root type_id head : ℕ) (info : TypeInfo) (items target : ℕ) → TakesBlock heap middle n place
     → n ≡ words_in info.shape items → head ≡ old_header type_id (keeps_cards heap.setup.settings.card info.shape items)
-    → new ≡ with_newborn middle place head root info items
-    → BearsOld heap (record new { old_words = new.old_words + n; fresh = new.fresh + n }) root type_id info items
-bears_old heap middle new n place root type_id head info items taken size head_is is = record {
+    → new ≡ with_newborn middle place head root info items target
+    → BearsOld heap (record new { old_words = new.old_words + n; fresh = new.fresh + n }) root type_id info items target
+bears_old heap middle new n place root type_id head info items target taken size head_is is = record {
   middle = middle;
   place = place;
   takes = subst (λ (k : ℕ). TakesBlock heap middle k place) size taken;
-  is = ap (λ (h : HeapParts). record h { old_words = h.old_words + n; fresh = h.fresh + n }) (is ∙ ap (λ (k : ℕ). with_newborn middle place k root info items) head_is)
-      ∙ ap (λ (k : ℕ). record (with_newborn middle place (old_header type_id (keeps_cards heap.setup.settings.card info.shape items)) root info items) {
+  is = ap (λ (h : HeapParts). record h { old_words = h.old_words + n; fresh = h.fresh + n }) (is ∙ ap (λ (k : ℕ). with_newborn middle place k root info items target) head_is)
+      ∙ ap (λ (k : ℕ). record (with_newborn middle place (old_header type_id (keeps_cards heap.setup.settings.card info.shape items)) root info items target) {
         old_words = middle.old_words + k;
         fresh = middle.fresh + k;
       }) size;

@@ -69,17 +69,23 @@ pub target_is : (heap : HeapParts) (store : Store) (root : ℕ) (s : PartsStandF
 target_is heap store root s full weak =
     ap target_in (object-found heap store root s full) ∙ target-from heap.setup.types s.name (word_in heap) (place_in heap root) weak
 
+-- it is nil or the place of an object
+pub target_pointer : (heap : HeapParts) (store : Store) (root : ℕ) (s : PartsStandFor heap store) → place_in heap root ≢ 0
+    → (info_at heap.setup.types (word_in heap) (place_in heap root)).shape ≡ Weak → IsPointer s.places (word_in heap (layout_in heap root).ref_start)
+target_pointer heap store root s full weak =
+    let here = in_slot heap store root s full in
+    let zeroth : word_in heap ((layout_in heap root).ref_start + 0) ≡ word_in heap (layout_in heap root).ref_start = ap (word_in heap) (omega arith) in
+    let one = (weak-at heap.setup.types (word_in heap) (place_in heap root) weak).0 in
+    subst (IsPointer s.places) zeroth (s.words.objects.closed (place_in heap root) 0 here.there (omega (arith, one)))
+
 -- A slot gets the target of the weak object in a slot.
 pub deref_stands : (heap : HeapParts) (store : Store) (to root : ℕ) (s : PartsStandFor heap store) → place_in heap root ≢ 0
     → (info_at heap.setup.types (word_in heap) (place_in heap root)).shape ≡ Weak
     → GetsRevived heap store to (word_in heap (layout_in heap root).ref_start) (target_at store root)
 deref_stands heap store to root s full weak =
     let place : ℕ = word_in heap (layout_in heap root).ref_start in
-    let here = in_slot heap store root s full in
-    let zeroth : word_in heap ((layout_in heap root).ref_start + 0) ≡ place = ap (word_in heap) (omega arith) in
-    let one = (weak-at heap.setup.types (word_in heap) (place_in heap root) weak).0 in
-    let pointer : IsPointer s.places place = subst (IsPointer s.places) zeroth (s.words.objects.closed (place_in heap root) 0 here.there (omega (arith, one))) in
-    subst (GetsRevived heap store to place) (sym (target_is heap store root s full weak)) (revive_stands heap store to place s pointer)
+    subst (GetsRevived heap store to place) (sym (target_is heap store root s full weak))
+    (revive_stands heap store to place s (target_pointer heap store root s full weak))
 
 -- the place of an object, or 0
 abbrev pub place_or_nil : Option ℕ → ℕ

@@ -15,10 +15,10 @@ use Rattle.old_space.specs.declared.Old.{Old}
 use Rattle.heap_parts.specs.Parts.{HeapParts}
 use Rattle.heap_parts.specs.Headers.{keeps_cards}
 
--- the parts with a new object at a place, and in a slot: its header, and so many items if it is an array
-abbrev pub with_newborn : HeapParts → ℕ → ℕ → ℕ → TypeInfo → ℕ → HeapParts
-with_newborn heap place header root info items = record heap {
-  memory = record heap.memory { blocks = with_run heap.memory.blocks place (born_words info.shape header heap.next items 0) };
+-- the parts with a new object at a place, and in a slot: its header, so many items if it is an array, and its target if it is weak
+abbrev pub with_newborn : HeapParts → ℕ → ℕ → ℕ → TypeInfo → ℕ → ℕ → HeapParts
+with_newborn heap place header root info items target = record heap {
+  memory = record heap.memory { blocks = with_run heap.memory.blocks place (born_words info.shape header heap.next items target) };
   slots = slice_set heap.slots root place;
   next = heap.next + 1;
 }
@@ -40,13 +40,13 @@ pub record HasNurseryRoom (heap : HeapParts) (root : ℕ) (info : TypeInfo) (ite
   pub unsettled_small : heap.unsettled + words_in info.shape items < 2 ^ 63
 
 -- an object is born at the lowest place that has room in the nursery
-pub record BearsYoung (old new : HeapParts) (root type_id : ℕ) (info : TypeInfo) (items : ℕ) : Type 0 where
+pub record BearsYoung (old new : HeapParts) (root type_id : ℕ) (info : TypeInfo) (items target : ℕ) : Type 0 where
   pub place : ℕ
   pub nursery : NurseryLayout
   pub lowest : FitsLowest old.nursery (words_in info.shape items) place
   pub hands : HandsOut old.nursery (words_in info.shape items) place nursery
   pub laid : IsLaidOut nursery
-  pub is : new ≡ record (with_newborn old place type_id root info items) { nursery = nursery; unsettled = old.unsettled + words_in info.shape items }
+  pub is : new ≡ record (with_newborn old place type_id root info items target) { nursery = nursery; unsettled = old.unsettled + words_in info.shape items }
 
 -- the parts whose blocks outside the nursery, and whose memory, are these
 abbrev pub with_old_blocks : HeapParts → Old → Memory → HeapParts
@@ -79,11 +79,11 @@ abbrev pub old_header : ℕ → Bool → ℕ
 old_header type_id cards = if cards then with_flag (with_flag type_id Track) HasCards else with_flag type_id Track
 
 -- an object is born outside the nursery, in a block that was taken for it
-pub record BearsOld (old new : HeapParts) (root type_id : ℕ) (info : TypeInfo) (items : ℕ) : Type 0 where
+pub record BearsOld (old new : HeapParts) (root type_id : ℕ) (info : TypeInfo) (items target : ℕ) : Type 0 where
   pub middle : HeapParts
   pub place : ℕ
   pub takes : TakesBlock old middle (words_in info.shape items) place
-  pub is : new ≡ record (with_newborn middle place (old_header type_id (keeps_cards old.setup.settings.card info.shape items)) root info items) {
+  pub is : new ≡ record (with_newborn middle place (old_header type_id (keeps_cards old.setup.settings.card info.shape items)) root info items target) {
     old_words = middle.old_words + words_in info.shape items;
     fresh = middle.fresh + words_in info.shape items;
   }

@@ -1,5 +1,6 @@
 //! Births, in the nursery and outside it.
 ghost use Rattle.std.specs.Prelude.{◌≡◌, ℕ, ◌≤◌, IsTrue, IsFalse, IfOk, OnOk, OnErr};
+ghost use Rattle.type_table.specs.declared.info.Shape.TheVariants.{Weak};
 ghost use Rattle.type_table.specs.Words.{words_in};
 ghost use Rattle.object_header.specs.Words.{IsHeader};
 ghost use Rattle.nursery_gaps.specs.Nursery.{Fits};
@@ -14,17 +15,27 @@ use std::alloc::AllocError;
 use type_table::{Shape, TypeInfo, words};
 
 impl Parts {
-    /// A new object at a place where there is room for it, and in a slot. It does not allocate.
-    fn bear_at(&mut self, place: u64, header: u64, root: u32, info: TypeInfo, items: u64)
+    /// A new object at a place where there is room for it, and in a slot. The place of its target is 0 but for a weak object
+    /// that has one. It does not allocate.
+    fn bear_at(
+        &mut self,
+        place: u64,
+        header: u64,
+        root: u32,
+        info: TypeInfo,
+        items: u64,
+        target: u64,
+    )
         requires room { HasRoom self.old place root info items }
         requires header { IsHeader header }
-        ensures { self.new ≡ with_newborn self.old place header root info items }
+        requires target { (info.shape ≡ Weak → ⊥) → target ≡ 0 }
+        ensures { self.new ≡ with_newborn self.old place header root info items target }
     {
         let birth = Birth {
             header,
             number: self.next,
             len: items,
-            target: 0,
+            target,
         };
         init(&mut self.space, place, info, birth);
         self.slots[root as usize] = place;
@@ -33,9 +44,17 @@ impl Parts {
 
     /// A new object at the lowest place of the nursery that has room for it, and in a slot. False exactly where no place
     /// has, and then nothing changes. It does not allocate.
-    pub fn bear_young(&mut self, root: u32, type_id: u16, info: TypeInfo, items: u64) -> bool
-        requires { HasNurseryRoom self.old root info items }
-        ensures bears { IsTrue result → BearsYoung self.old self.new root type_id info items }
+    pub fn bear_young(
+        &mut self,
+        root: u32,
+        type_id: u16,
+        info: TypeInfo,
+        items: u64,
+        target: u64,
+    ) -> bool
+        requires room { HasNurseryRoom self.old root info items }
+        requires target { (info.shape ≡ Weak → ⊥) → target ≡ 0 }
+        ensures bears { IsTrue result → BearsYoung self.old self.new root type_id info items target }
         ensures same { IsFalse result → self.new ≡ self.old }
         ensures full { IsFalse result → (place : ℕ) → ¬ Fits self.old.nursery (words_in info.shape items) place }
     {
@@ -43,7 +62,7 @@ impl Parts {
         let Some(place) = self.nursery.bump(n) else {
             return false;
         };
-        self.bear_at(place, u64::from(type_id), root, info, items);
+        self.bear_at(place, u64::from(type_id), root, info, items, target);
         self.unsettled += n;
         true
     }
@@ -66,15 +85,17 @@ impl Parts {
         type_id: u16,
         info: TypeInfo,
         items: u64,
+        target: u64,
     ) -> Result<(), AllocError>
-        requires { HasOldRoom self.old root info items }
-        ensures born { OnOk result (BearsOld self.old self.new root type_id info items) }
+        requires room { HasOldRoom self.old root info items }
+        requires target { (info.shape ≡ Weak → ⊥) → target ≡ 0 }
+        ensures born { OnOk result (BearsOld self.old self.new root type_id info items target) }
         ensures err { OnErr result (TakesNone self.old self.new) }
     {
         let n = words(info, items);
         let header = old_header(type_id, keeps_cards(self.settings.card, info.shape, items));
         let place = self.take_block(n)?;
-        self.bear_at(place, header, root, info, items);
+        self.bear_at(place, header, root, info, items, target);
         self.old_words += n;
         self.fresh += n;
         Ok(())

@@ -2,7 +2,7 @@
 //! has one target, which it does not keep alive.
 #![tactic(auto)]
 
-ghost use Rattle.std.specs.Prelude.{◌≡◌, ◌++◌, ◌∷◌, [], ℕ, List, IfOk, OnOk, OnErr, not, filter};
+ghost use Rattle.std.specs.Prelude.{◌≡◌, ◌++◌, ◌∷◌, [], ℕ, ◌<◌, List, length, IfOk, OnOk, OnErr, not, filter};
 ghost use Rattle.std.specs.List.Sorted.{IsNonDecreasing};
 ghost use Rattle.heap_space.specs.Places.{word_at};
 ghost use Rattle.object_model.specs.Sets.{is_in};
@@ -60,6 +60,23 @@ impl Weaks {
     {
         self.places.push(a)?;
         Ok(())
+    }
+
+    /// Says that the weak object that was added last stands at the place `a`. So room can be asked for before an object is
+    /// born.
+    pub fn place_last(&mut self, a: u64)
+        requires { 0 < length self.old }
+        ensures { (front : List ℕ) (x : ℕ) → self.old ≡ front ++ x ∷ [] → self.new ≡ front ++ a ∷ [] }
+    {
+        let last = self.places.len() - 1;
+        self.places[last] = a;
+    }
+
+    /// Takes what was added last off the list.
+    pub fn drop_last(&mut self)
+        ensures { (front : List ℕ) (x : ℕ) → self.old ≡ front ++ x ∷ [] → self.new ≡ front }
+    {
+        let _last = self.places.pop();
     }
 
     /// Follows the weak objects and their targets through a minor collection that has moved what it

@@ -47,7 +47,10 @@ fn targets_are_cleared(rt: HostRuntime) -> Result<(), Fail> {
     let mut weaks = Weaks::new(rt.alloc())?;
     let mut cleared = Vec::new(rt.alloc());
     weaks.add(4294967299)?;
-    weaks.add(4294967296)?;
+    weaks.add(0)?;
+    weaks.drop_last();
+    weaks.add(0)?;
+    weaks.place_last(4294967296);
     weaks.after_marking(&mut space, &types, &nursery, &mut cleared)?;
     assert_eq!(rt; cleared.as_slice(), [7, 8].as_slice());
     assert!(rt; space.has(4294967301) && space.read(4294967301) == 0);

@@ -9,11 +9,11 @@ use Rattle.heap_parts.proofs.parts.Parts.bear_old.Goals as goal
 pub bear_at-requires-clause-room : goal.bear_at-requires-clause-room
 bear_at-requires-clause-room c =
     taken_room c.args.self.now c.take_block.new.self c.words-n.result c.in_ok-place.place c.args.root c.args.info c.args.items
-    c.requires c.words-n.ensures c.in_ok-place.ensures.taken
+    c.requires.room c.words-n.ensures c.in_ok-place.ensures.taken
 
 pub returns-clause-born : goal.returns-clause-born
 returns-clause-born c =
-    bears_old c.args.self.now c.take_block.new.self (the_view c.self-2.inside) c.words-n.result c.in_ok-place.place c.args.root c.args.type_id c.old_header-header.result c.args.info c.args.items
+    bears_old c.args.self.now c.take_block.new.self (the_view c.self-2.inside) c.words-n.result c.in_ok-place.place c.args.root c.args.type_id c.old_header-header.result c.args.info c.args.items c.args.target
     c.in_ok-place.ensures.taken c.words-n.ensures
     (c.old_header-header.ensures.value ∙ ap (λ (b : Bool). old_header c.args.type_id b)
     (c.keeps_cards.ensures ∙ ap (λ (h : HeapParts). keeps_cards h.setup.settings.card c.args.info.shape c.args.items) c.self.view_is))

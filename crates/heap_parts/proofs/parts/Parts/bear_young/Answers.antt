@@ -15,4 +15,4 @@ returns-in_default-clause-full c = λ f place fits.
 pub bear_at-requires-clause-room : goal.bear_at-requires-clause-room
 bear_at-requires-clause-room c =
     young_room (the_view c.self.inside) c.bump.new.self c.in-Some.place c.words-n.result c.args.root c.args.info c.args.items
-    (subst (λ (h : HeapParts). HasNurseryRoom h c.args.root c.args.info c.args.items) (sym c.self.view_is) c.requires) c.words-n.ensures c.in-Some.ensures.lowest
+    (subst (λ (h : HeapParts). HasNurseryRoom h c.args.root c.args.info c.args.items) (sym c.self.view_is) c.requires.room) c.words-n.ensures c.in-Some.ensures.lowest

@@ -1,0 +1,112 @@
+-- Births of weak objects by commands.
+use Rattle.std.proofs.Common.{◌≡◌, ℕ, ◌<◌, ◌≤◌, Bool, true, false, List, [], ◌∷◌, ◌++◌, Option, Some, refl, sym, ap, ◌∙◌, subst, arith}
+use Rattle.std.proofs.Math.Nat.{le-min}
+use Rattle.type_table.specs.declared.info.Shape.{Shape}
+use Rattle.type_table.specs.declared.info.Shape.TheVariants.{Weak}
+use Rattle.type_table.specs.declared.info.TypeInfo.{TypeInfo}
+use Rattle.type_table.specs.Table.{value_at}
+use Rattle.type_table.specs.Words.{words_in}
+use Rattle.text_model.specs.declared.command.Command.TheVariants.{NewWeak}
+use Rattle.text_model.specs.declared.line.Line.{Line}
+use Rattle.text_model.specs.declared.line.Line.TheVariants.{Born}
+use Rattle.object_model.specs.Newborn.{Request}
+use Rattle.object_model.specs.Setup.{young_words}
+use Rattle.object_model.specs.Shapes.{is_weak_shape}
+use Rattle.object_view.proofs.NewbornLaws.{request_for, request-weak}
+use Rattle.store_model.specs.Store.{Store}
+use Rattle.store_model.specs.Births.{weak_request, BirthWithRoomOf}
+use Rattle.store_model.specs.Birth.{with_birth}
+use Rattle.store_model.specs.Steps.{Does}
+use Rattle.heap_parts.specs.Parts.{HeapParts, place_in}
+use Rattle.heap_parts.specs.StandsFor.{PartsStandFor}
+use Rattle.heap_parts.specs.WeakBirths.{HasWeakRoom, BearsWeakYoung, BearsWeakOld, BearsWeak}
+use Rattle.heap_parts.proofs.SlotLaws.{slot-pointer}
+use Rattle.heap_core.specs.Commands.{AreReady}
+use Rattle.heap_core.specs.Bearing.{PartsAppend, IsFitting}
+use Rattle.heap_core.proofs.SlotCalls.{slot-holds}
+use Rattle.heap_core.proofs.BirthLaws.{CanBear, young_born, old_born, old_listed, room_ungapped}
+use Rattle.heap_core.proofs.BearLaws.{nursery_room, old_room, can_bear, birth_with_room}
+use Rattle.heap_core.proofs.WeakReady.{new_weak_ready}
+
+-- what the birth of the parts asks
+pub weak_room : (heap : HeapParts) (root type_id target : ℕ) (info : TypeInfo) → AreReady heap (NewWeak root type_id target) → value_at heap.setup.types type_id ≡ Some info
+    → HasWeakRoom heap root info
+weak_room heap root type_id target info ready found =
+    let may = new_weak_ready heap root type_id target info ready found in
+    record { weak = may.weak; young = nursery_room heap root type_id 0 info may.fits; old = old_room heap root type_id 0 info may.fits }
+
+-- the object that is asked for, with what a slot holds as its target
+request-held : {heap : HeapParts} {store : Store} (s : PartsStandFor heap store) (root type_id target : ℕ) (shape : Shape) → shape ≡ Weak
+    → request_for s.name root type_id 0 shape (place_in heap target) ≡ weak_request store root type_id target
+request-held {heap = heap} {store = store} s root type_id target shape weak =
+    request-weak s.name root type_id 0 shape (place_in heap target) weak
+    ∙ ap (λ (o : Option ℕ). record { slot = root; type_id = type_id; items = 0; target = o }) (sym (slot-holds heap store target s))
+
+-- what a birth of a weak object makes of the parts, and of each store that they stand for
+record WeakIsBorn (is_old : Bool) (heap new : HeapParts) (root type_id target : ℕ) (info : TypeInfo) : Type 0 where
+  setup : new.setup ≡ heap.setup
+  small : heap.gapped ≡ false → is_old ≡ false
+  stands : (store : Store) → PartsStandFor heap store → PartsStandFor new (with_birth is_old store info (weak_request store root type_id target))
+
+young_is_born : (heap new : HeapParts) (root type_id target : ℕ) (info : TypeInfo) → info.shape ≡ Weak → CanBear true heap type_id info 0
+    → BearsWeakYoung heap new root type_id info (place_in heap target) → WeakIsBorn false heap new root type_id target info
+young_is_born heap new root type_id target info weak can b =
+    let listed : b.born.weaks ≡ heap.weaks = ap (λ (h : HeapParts). h.weaks) b.bears.is in record {
+      setup = ap (λ (h : HeapParts). h.setup) b.is ∙ ap (λ (h : HeapParts). h.setup) b.bears.is;
+      small = λ ungapped. refl;
+      stands = λ store s.
+          subst (λ (h : HeapParts). PartsStandFor h (with_birth false store info (weak_request store root type_id target)))
+          (ap (λ (ws : List ℕ). record b.born { weaks = ws ++ b.bears.place ∷ [] }) (sym listed) ∙ sym b.is)
+          (subst (λ (r : Request). PartsStandFor (record b.born { weaks = heap.weaks ++ b.bears.place ∷ [] }) (with_birth false store info r)) (request-held s root type_id target info.shape weak)
+          (young_born heap b.born store root type_id 0 (place_in heap target) info true s can (slot-pointer heap.slots s.places target s.slots.pointers) b.bears));
+    }
+
+old_is_born : (heap new : HeapParts) (root type_id target : ℕ) (info : TypeInfo) → info.shape ≡ Weak → IsFitting heap root type_id info 0 → CanBear true heap type_id info 0
+    → BearsWeakOld heap new root type_id info (place_in heap target) → WeakIsBorn true heap new root type_id target info
+old_is_born heap new root type_id target info weak f can b = record {
+  setup = ap (λ (h : HeapParts). h.setup) b.is ∙ (ap (λ (h : HeapParts). h.setup) b.bears.is ∙ ap (λ (h : HeapParts). h.setup) b.bears.takes.keeps.only);
+  small = λ ungapped. absurd (
+      let s = f.standing.stands in let room = f.nursery in
+      b.full heap.nursery.cursor (room_ungapped heap f.standing.store s (words_in info.shape 0) ungapped (omega (arith, room))));
+  stands = λ store s.
+      subst (λ (h : HeapParts). PartsStandFor h (with_birth true store info (weak_request store root type_id target)))
+      (ap (λ (ws : List ℕ). record b.born { weaks = ws ++ b.bears.place ∷ [] }) (sym (old_listed b.bears)) ∙ sym b.is)
+      (subst (λ (r : Request). PartsStandFor (record b.born { weaks = heap.weaks ++ b.bears.place ∷ [] }) (with_birth true store info r)) (request-held s root type_id target info.shape weak)
+      (old_born heap b.born store root type_id 0 (place_in heap target) info true s can (slot-pointer heap.slots s.places target s.slots.pointers) b.bears));
+}
+
+is_born : (is_old : Bool) (heap new : HeapParts) (root type_id target : ℕ) (info : TypeInfo) → info.shape ≡ Weak → IsFitting heap root type_id info 0 → CanBear true heap type_id info 0
+    → BearsWeak is_old heap new root type_id info (place_in heap target) → WeakIsBorn is_old heap new root type_id target info
+is_born true heap new root type_id target info weak f can b = old_is_born heap new root type_id target info weak f can b
+is_born false heap new root type_id target info weak f can b = young_is_born heap new root type_id target info weak can b
+
+-- a weak object is not larger than an object of the nursery may be
+weak_small : (heap : HeapParts) (root type_id : ℕ) (info : TypeInfo) → info.shape ≡ Weak → IsFitting heap root type_id info 0 → words_in info.shape 0 ≤ young_words heap.setup.settings
+weak_small heap root type_id info weak f =
+    let three : words_in info.shape 0 ≡ 3 = ap (λ (s : Shape). words_in s 0) weak in
+    let ranges = f.standing.stands.made.ranges in let nursery = ranges.0 in let young = ranges.2.0 in
+    let least : 3 ≤ young_words heap.setup.settings = le-min (omega (arith, young)) (omega (arith, nursery)) in
+    omega (arith, three, least)
+
+pub new_weak_does : (heap new : HeapParts) (root type_id target birth : ℕ) (is_old : Bool) (info : TypeInfo) (before after : List Line) → AreReady heap (NewWeak root type_id target)
+    → value_at heap.setup.types type_id ≡ Some info → type_id < 65536 → birth ≡ heap.next → birth ≤ 9223372036854775806
+    → BearsWeak is_old heap new root type_id info (place_in heap target) → after ≡ before ++ Born birth is_old ∷ []
+    → PartsAppend heap new (NewWeak root type_id target) before after
+unfolding Does
+new_weak_does heap new root type_id target birth is_old info before after ready found small is low bears appended =
+    let may = new_weak_ready heap root type_id target info ready found in
+    let can = can_bear heap root type_id 0 birth info true may.fits (ap is_weak_shape may.weak) small is low in
+    let born = is_born is_old heap new root type_id target info may.weak may.fits can bears in
+    let few = weak_small heap root type_id info may.weak may.fits in record {
+      lines = Born heap.next is_old ∷ [];
+      appended = appended ∙ ap (λ (k : ℕ). before ++ Born k is_old ∷ []) is;
+      does = record {
+        setup = born.setup;
+        does = λ store s. let request : Request = weak_request store root type_id target in (
+          with_birth is_old store info request,
+          subst (λ (known : Option TypeInfo). BirthWithRoomOf known heap.setup store request (Born heap.next is_old ∷ []) (with_birth is_old store info request)) (sym found)
+              (birth_with_room heap store request info is_old may.fits s (λ more. absurd (let no : ⊥ = omega (arith, more, few) in no)) (λ l ungapped. born.small ungapped)),
+          born.stands store s,
+        );
+      };
+    }

@@ -1,0 +1,93 @@
+//! Weak objects.
+ghost use Rattle.std.specs.Prelude.{◌≡◌, [], ◌∷◌, IsTrue, IfOk, IfErr, OnOk, OnErr, Err};
+ghost use Rattle.text_model.specs.declared.command.Command.TheVariants.{NewWeak, Deref};
+ghost use Rattle.text_model.specs.declared.line.Line.TheVariants.{Derefed};
+ghost use Rattle.heap_core.specs.declared.fault.HeapFault.TheVariants.{Spent};
+ghost use Rattle.heap_core.specs.Bearing.{PartsAppend};
+ghost use Rattle.heap_core.specs.Commands.{AreReady, CanDo, PartsDo, PartsKeep, Performs, Keeps, fault_of};
+
+use crate::births::LAST_BIRTH;
+use crate::fault::HeapFault;
+use crate::heap::{Heap, State};
+use heap_parts::Parts;
+use std::alloc::AllocError;
+use text_model::Line;
+
+impl Heap {
+    /// A weak object is born for a slot, and its line is appended. Its target is what another slot holds, which it does not
+    /// keep. It is young, but where a nursery with pinned objects has no room for it. After an error the heap represents the
+    /// stores that it represented, and no line is there.
+    pub fn new_weak(
+        &mut self,
+        root: u32,
+        type_id: u16,
+        target: u32,
+        out: &mut Vec<Line>,
+    ) -> Result<(), HeapFault>
+        requires { CanDo self.old (NewWeak root type_id target) }
+        ensures performs { OnOk result (Performs self.old self.new (NewWeak root type_id target) out.old.items out.new.items) }
+        ensures err { OnErr result (Keeps self.old self.new) }
+        ensures err_out { OnErr result (out.new.items ≡ out.old.items) }
+        ensures cause { IfErr result (λ fault. fault ≡ fault_of self.old.is_spent) }
+        ensures spent { IsTrue self.old.is_spent → (result ≡ Err Spent) × (self.new ≡ self.old) }
+    {
+        match &mut self.state {
+            State::Started(parts) => Ok(bear_weak(parts, root, type_id, target, out)?),
+            State::Closed | State::Spent => Err(HeapFault::Spent),
+        }
+    }
+
+    /// Puts the target of the weak object in a slot into a slot, and answers its birth, None where there is none. The target
+    /// is revived: it and all that it leads to stay, also where marking runs.
+    pub fn deref(&mut self, to: u32, root: u32) -> Result<Option<u64>, HeapFault>
+        requires { CanDo self.old (Deref to root) }
+        ensures performs { IfOk result (λ birth. Performs self.old self.new (Deref to root) [] (Derefed birth ∷ [])) }
+        ensures spent { IsTrue self.old.is_spent → result ≡ Err Spent }
+        ensures cause { OnErr result (IsTrue self.old.is_spent) }
+        ensures err { OnErr result (self.new ≡ self.old) }
+    {
+        match &mut self.state {
+            State::Started(parts) => Ok(deref_weak(parts, to, root)),
+            State::Closed | State::Spent => Err(HeapFault::Spent),
+        }
+    }
+}
+
+/// A weak object is born for a slot, with what another slot holds as its target, and its line is appended. The error is
+/// out of memory, also where the next birth would reach 2^63.
+fn bear_weak(
+    parts: &mut Parts,
+    root: u32,
+    type_id: u16,
+    target: u32,
+    out: &mut Vec<Line>,
+) -> Result<(), AllocError>
+    requires { AreReady parts.old (NewWeak root type_id target) }
+    ensures does { OnOk result (PartsAppend parts.old parts.new (NewWeak root type_id target) out.old.items out.new.items) }
+    ensures err { OnErr result (PartsKeep parts.old parts.new) }
+    ensures err_out { OnErr result (out.new.items ≡ out.old.items) }
+{
+    let birth = parts.next_birth();
+    if birth > LAST_BIRTH {
+        return Err(AllocError);
+    }
+    let Some(info) = parts.type_info(type_id) else {
+        return Err(AllocError);
+    };
+    out.reserve(1)?;
+    let place = parts.place(target);
+    let old = parts.bear_weak(root, type_id, info, place)?;
+    out.push_reserved(Line::Born { birth, old });
+    Ok(())
+}
+
+/// Puts the target of the weak object in a slot into a slot, and answers its birth.
+fn deref_weak(parts: &mut Parts, to: u32, root: u32) -> Option<u64>
+    requires { AreReady parts.old (Deref to root) }
+    ensures { PartsDo parts.old parts.new (Deref to root) (Derefed result ∷ []) }
+{
+    let place = parts.target(root);
+    let birth = parts.birth_of(place);
+    parts.set_slot(to, place);
+    birth
+}
