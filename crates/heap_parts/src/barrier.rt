@@ -14,6 +14,7 @@ impl Parts {
         ensures remembers { OnOk result (RemembersItems self.old self.new place item count) }
         ensures err { OnErr result (self.new ≡ self.old) }
     {
-        self.remember.barrier_copy(&mut self.space, place, item, count)
+        self.remember
+            .barrier_copy(&mut self.space, place, item, count)
     }
 }
