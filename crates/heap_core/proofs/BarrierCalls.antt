@@ -1,5 +1,5 @@
--- An item of a settled object is remembered, and then written.
-use Rattle.std.proofs.Common.{◌≡◌, ◌≢◌, ℕ, ◌<◌, ◌≤◌, ◌%◌, Bool, true, false, IsTrue, List, [], ◌∷◌, Option, refl, sym, ap, ◌∙◌, subst, inl, inr, arith}
+-- Items of a settled object are remembered, and then one is written.
+use Rattle.std.proofs.Common.{◌≡◌, ◌≢◌, ℕ, zero, suc, ◌+◌, ◌<◌, ◌≤◌, ◌%◌, Bool, true, false, IsTrue, List, [], ◌∷◌, Option, refl, sym, ap, ◌∙◌, subst, inl, inr, arith}
 use Rattle.std.specs.Prelude.{not, ◌==◌, ◌&&◌}
 use Rattle.std.specs.List.{list_any}
 use Rattle.std.proofs.lemmas.Bool.{cases_Bool, eq-eqb}
@@ -24,7 +24,7 @@ use Rattle.heap_parts.specs.Places.{is_young, old_places}
 use Rattle.heap_parts.specs.Headers.{IsSettledHeader}
 use Rattle.heap_parts.specs.StandsFor.{PartsStandFor}
 use Rattle.heap_parts.specs.Effects.{layout_in, ref_place, with_word_at}
-use Rattle.heap_parts.specs.Remembers.{CanRemember, RemembersItem}
+use Rattle.heap_parts.specs.Remembers.{CanRemember, RemembersItems}
 use Rattle.heap_parts.proofs.PlaceLaws.{old-is_in, is_in-old}
 use Rattle.heap_parts.proofs.HeaderLaws.{HeaderIs, header_is}
 use Rattle.object_model.proofs.Members.{or_cases, or_first, or_second}
@@ -63,49 +63,51 @@ flags-keep word head same header typed h = record {
   cards = same HasCards (λ e. let no : ⊥ = cc in no) (λ e. let no : ⊥ = cc in no);
 }
 
-pub head_keeps : (word : ℕ) → IsSettledHeader word → HeadKeeps word (items_head word 1)
-head_keeps word h = elim (cases_Bool (has_flag word HasCards)) [
+pub head_keeps : (word count : ℕ) → IsSettledHeader word → HeadKeeps word (items_head word count)
+head_keeps word zero h = flags-keep word word (λ g t s. refl) h.live.header refl h
+head_keeps word (suc n) h = elim (cases_Bool (has_flag word HasCards)) [
   | inl e ↦ elim (cases_Bool (has_flag word Track)) [
     | inl f ↦
-        let is : items_head word 1 ≡ with_flag word CardsSet = rw (e, f) refl in
+        let is : items_head word (suc n) ≡ with_flag word CardsSet = rw (e, f) refl in
         subst (HeadKeeps word) (sym is) (flags-keep word (with_flag word CardsSet) (λ g t s. has_flag-with_flag_other word CardsSet g s)
         (IsHeader-with_flag word CardsSet h.live.header) (type_of-with_flag word CardsSet) h)
     | inr f ↦
-        let is : items_head word 1 ≡ word = rw (e, f) refl in
+        let is : items_head word (suc n) ≡ word = rw (e, f) refl in
         subst (HeadKeeps word) (sym is) (flags-keep word word (λ g t s. refl) h.live.header refl h)
   ]
   | inr e ↦
-      let is : items_head word 1 ≡ without_flag word Track = rw e refl in
+      let is : items_head word (suc n) ≡ without_flag word Track = rw e refl in
       subst (HeadKeeps word) (sym is) (flags-keep word (without_flag word Track) (λ g t s. has_flag-without_flag_other word Track g t)
       (IsHeader-without_flag word Track h.live.header) (type_of-without_flag word Track) h)
 ]
 
 -- the flags of a settled object tell what is remembered of it
-pub can_remember : {heap : HeapParts} {store : Store} (s : PartsStandFor heap store) (p item : ℕ) → IsTrue (is_in p (old_places s.places)) → item ≤ 16777216
-    → CanRemember heap p item
-can_remember {heap = heap} s p item t few = record {
+pub can_remember : {heap : HeapParts} {store : Store} (s : PartsStandFor heap store) (p item count : ℕ) → IsTrue (is_in p (old_places s.places))
+    → item + count ≤ 33554432 → CanRemember heap p item count
+can_remember {heap = heap} s p item count t few = record {
   there = lies-at heap.memory.blocks p (words_at heap.setup.types (word_in heap) p) p (s.words.whole p (old-is_in s.places p t).0).whole (omega arith)
       (omega (arith, (laid_out heap.setup.types (word_in heap) p).header));
   tracked = s.remembered.tracked.each p t;
-  item_small = omega (arith, few);
+  items_small = omega (arith, few);
 }
 
-module _ {heap new : HeapParts} {store : Store} (s : PartsStandFor heap store) (p item : ℕ) (t : IsTrue (is_in p (old_places s.places))) (r : RemembersItem heap new p item) where
-  keeps : HeadKeeps (word_in heap p) (items_head (word_in heap p) 1)
-  keeps = head_keeps (word_in heap p) (s.headers.settled.each p t)
+module _ {heap new : HeapParts} {store : Store} (s : PartsStandFor heap store) (p item count : ℕ) (t : IsTrue (is_in p (old_places s.places)))
+    (r : RemembersItems heap new p item count) where
+  keeps : HeadKeeps (word_in heap p) (items_head (word_in heap p) count)
+  keeps = head_keeps (word_in heap p) count (s.headers.settled.each p t)
 
-  is : HeaderIs heap store s p (items_head (word_in heap p) 1)
-  is = header_is heap store s p (items_head (word_in heap p) 1) (old-is_in s.places p t).0 keeps.typed keeps.settled.live.header
+  is : HeaderIs heap store s p (items_head (word_in heap p) count)
+  is = header_is heap store s p (items_head (word_in heap p) count) (old-is_in s.places p t).0 keeps.typed keeps.settled.live.header
 
   -- the parts stand for the same stores
-  pub item_remembered : PartsStandFor new store
-  item_remembered = subst (λ (h : HeapParts). PartsStandFor h store) (sym r.only)
-      (remember_stands heap store p (items_head (word_in heap p) 1) new.remembered s t keeps.typed keeps.settled keeps.visited keeps.cards
+  pub items_remembered : PartsStandFor new store
+  items_remembered = subst (λ (h : HeapParts). PartsStandFor h store) (sym r.only)
+      (remember_stands heap store p (items_head (word_in heap p) count) new.remembered s t keeps.typed keeps.settled keeps.visited keeps.cards
       (subst (IsTracked new.remembered p) (ap (λ (h : HeapParts). word_in h p) r.only ∙ is.here) r.tracked) r.more)
 
-  -- and the parts of the object lie where they lay
-  pub layout_remembered : layout_at new.setup.types (word_in new) p ≡ layout_at heap.setup.types (word_in heap) p
-  layout_remembered = ap (λ (h : HeapParts). layout_at h.setup.types (word_in h) p) r.only ∙ (is.same.layouts p (old-is_in s.places p t).0).layout_stays
+  -- and the parts of each object lie where they lay
+  pub layout_remembered : (q : ℕ) → IsTrue (is_in q s.places) → layout_at new.setup.types (word_in new) q ≡ layout_at heap.setup.types (word_in heap) q
+  layout_remembered q u = ap (λ (h : HeapParts). layout_at h.setup.types (word_in h) q) r.only ∙ (is.same.layouts q u).layout_stays
 
 -- what is remembered of a place is remembered of its name
 pub named-held : (card : ℕ) (hs : List Held) (name : ℕ → ℕ) (p i : ℕ) → IsTrue (list_any (λ h. h.place == p && holds_item card h i) hs)
@@ -143,17 +145,17 @@ link_young heap store root item from s full low l =
 
 -- A reference of the settled object in a slot is written, after it was remembered.
 link_old : (heap new : HeapParts) (store : Store) (root item from : ℕ) (s : PartsStandFor heap store) → place_in heap root ≢ 0
-    → IsTrue (is_in (place_in heap root) (old_places s.places)) → item < (layout_in heap root).ref_count → RemembersItem heap new (place_in heap root) item
+    → IsTrue (is_in (place_in heap root) (old_places s.places)) → item < (layout_in heap root).ref_count → RemembersItems heap new (place_in heap root) item 1
     → PartsStandFor (with_word_at new (ref_place new root item) (place_in new from)) (put_ref store root item (held store.slots from))
 link_old heap new store root item from s full t l r =
     let p : ℕ = place_in heap root in
-    let after = item_remembered s p item t r in
+    let after = items_remembered s p item 1 t r in
     let same_root : place_in new root ≡ p = ap (λ (h : HeapParts). place_in h root) r.only in
-    let layout : layout_in new root ≡ layout_in heap root = ap (λ (q : ℕ). layout_at new.setup.types (word_in new) q) same_root ∙ layout_remembered s p item t r in
+    let layout : layout_in new root ≡ layout_in heap root = ap (λ (q : ℕ). layout_at new.setup.types (word_in new) q) same_root ∙ layout_remembered s p item 1 t r p (old-is_in s.places p t).0 in
     let named = slot-holds new store from after in
     let covered : IsTrue (is_held_of new.remembered after.name (after.name (place_in new root)) item) =
     subst (λ (q : ℕ). IsTrue (is_held_of new.remembered after.name (after.name q) item)) (sym same_root)
-    (named-held new.remembered.card new.remembered.held after.name p item r.covered) in
+    (named-held new.remembered.card new.remembered.held after.name p item (r.covered item (omega arith) (omega arith))) in
     subst (λ (b : Option ℕ). PartsStandFor (with_word_at new (ref_place new root item) (place_in new from)) (put_ref store root item b)) (sym named)
     (link_stands new store root item (place_in new from) after (λ e. full (sym same_root ∙ e)) (subst (λ (k : Layout). item < k.ref_count) (sym layout) l)
     (slot-pointer new.slots after.places from after.slots.pointers)
@@ -162,20 +164,20 @@ link_old heap new store root item from s full t l r =
 
 -- what the code asks before it writes
 pub link_can : (heap : HeapParts) (root item from : ℕ) → AreReady heap (Link root item from) → 4294967296 ≤ place_in heap root → item ≤ 16777216
-    → CanRemember heap (place_in heap root) item
+    → CanRemember heap (place_in heap root) item 1
 link_can heap root item from ready high few =
     let has = link_ready heap root item from ready in let s = ready.standing.stands in
-    can_remember s (place_in heap root) item (old_in_slot heap ready.standing.store root s has.full high) few
+    can_remember s (place_in heap root) item 1 (old_in_slot heap ready.standing.store root s has.full high) (omega (arith, few))
 
 -- and after the object was remembered
 pub link_ready_after : (heap new : HeapParts) (root item from : ℕ) → AreReady heap (Link root item from) → 4294967296 ≤ place_in heap root
-    → RemembersItem heap new (place_in heap root) item → HasRef new root item
+    → RemembersItems heap new (place_in heap root) item 1 → HasRef new root item
 link_ready_after heap new root item from ready high r =
     let has = link_ready heap root item from ready in let s = ready.standing.stands in let p : ℕ = place_in heap root in
     let t = old_in_slot heap ready.standing.store root s has.full high in
-    let after = item_remembered s p item t r in
+    let after = items_remembered s p item 1 t r in
     let same_root : place_in new root ≡ p = ap (λ (h : HeapParts). place_in h root) r.only in
-    let layout : layout_in new root ≡ layout_in heap root = ap (λ (q : ℕ). layout_at new.setup.types (word_in new) q) same_root ∙ layout_remembered s p item t r in
+    let layout : layout_in new root ≡ layout_in heap root = ap (λ (q : ℕ). layout_at new.setup.types (word_in new) q) same_root ∙ layout_remembered s p item 1 t r p (old-is_in s.places p t).0 in
     let full : place_in new root ≢ 0 = λ e. has.full (sym same_root ∙ e) in record {
       full = full;
       object = record {
@@ -195,7 +197,7 @@ link_young_does heap root item from ready low =
     }
 
 pub link_old_does : (heap new : HeapParts) (root item from : ℕ) → AreReady heap (Link root item from) → 4294967296 ≤ place_in heap root
-    → RemembersItem heap new (place_in heap root) item
+    → RemembersItems heap new (place_in heap root) item 1
     → PartsDo heap (with_word_at new (ref_place new root item) (place_in heap from)) (Link root item from) []
 unfolding Does
 link_old_does heap new root item from ready high r =

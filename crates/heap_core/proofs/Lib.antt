@@ -5,6 +5,8 @@ pub mod SlotCalls
 pub mod StructReady
 pub mod StructCalls
 pub mod BarrierCalls
+pub mod CopyReady
+pub mod CopyCalls
 pub mod TellerLaws
 pub mod LookLaws
 pub mod BirthLaws

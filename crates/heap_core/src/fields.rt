@@ -1,6 +1,6 @@
 //! Whole numbers and references of objects.
 ghost use Rattle.std.specs.Prelude.{◌≡◌, [], ◌∷◌, IsTrue, IfOk, OnOk, OnErr, IfErr, Err};
-ghost use Rattle.text_model.specs.declared.command.Command.TheVariants.{Put, Get, Link};
+ghost use Rattle.text_model.specs.declared.command.Command.TheVariants.{Put, Get, Link, CopyRefs};
 ghost use Rattle.text_model.specs.declared.line.Line.TheVariants.{Got};
 ghost use Rattle.heap_core.specs.declared.fault.HeapFault.TheVariants.{Spent};
 ghost use Rattle.heap_core.specs.Commands.{AreReady, CanDo, PartsDo, Performs, done_unless, fault_of};
@@ -57,6 +57,30 @@ impl Heap {
             State::Closed | State::Spent => Err(HeapFault::Spent),
         }
     }
+
+    /// Copies `n` references of the object in the slot `from`, from item `j` on, to the items from `i` on of the object in the
+    /// slot `root`. All are read as they were before, also where both are one object. Where the object that is written is
+    /// settled, its items are remembered for the next minor collection. The cost is that of the copied words. After an
+    /// error nothing is changed.
+    pub fn copy_refs(
+        &mut self,
+        root: u32,
+        i: u64,
+        from: u32,
+        j: u64,
+        n: u64,
+    ) -> Result<(), HeapFault>
+        requires { CanDo self.old (CopyRefs root i from j n) }
+        ensures performs { OnOk result (Performs self.old self.new (CopyRefs root i from j n) [] []) }
+        ensures err { OnErr result (self.new ≡ self.old) }
+        ensures cause { IfErr result (λ fault. fault ≡ fault_of self.old.is_spent) }
+        ensures spent { IsTrue self.old.is_spent → result ≡ Err Spent }
+    {
+        match &mut self.state {
+            State::Started(parts) => Ok(copy_items(parts, root, i, from, j, n)?),
+            State::Closed | State::Spent => Err(HeapFault::Spent),
+        }
+    }
 }
 
 /// Puts a whole number into an item of the object in a slot.
@@ -88,7 +112,31 @@ fn link_ref(parts: &mut Parts, root: u32, i: u64, from: u32) -> Result<(), Alloc
         parts.link(root, i, to);
         return Ok(());
     }
-    parts.remember_item(place, i)?;
+    parts.remember_items(place, i, 1)?;
     parts.link(root, i, to);
+    Ok(())
+}
+
+/// Copies references of the object in one slot to items of that in another. The write barrier comes first: a place in the
+/// nursery costs it one test.
+fn copy_items(
+    parts: &mut Parts,
+    root: u32,
+    i: u64,
+    from: u32,
+    j: u64,
+    n: u64,
+) -> Result<(), AllocError>
+    requires { AreReady parts.old (CopyRefs root i from j n) }
+    ensures does { OnOk result (PartsDo parts.old parts.new (CopyRefs root i from j n) []) }
+    ensures err { OnErr result (parts.new ≡ parts.old) }
+{
+    let target = parts.place(root);
+    if target < FIRST_OLD {
+        parts.copy_refs(root, i, from, j, n);
+        return Ok(());
+    }
+    parts.remember_items(target, i, n)?;
+    parts.copy_refs(root, i, from, j, n);
     Ok(())
 }

@@ -25,15 +25,12 @@ use Rattle.heap_parts.specs.Parts.{HeapParts, word_in, place_in}
 use Rattle.heap_parts.specs.Places.{is_young}
 use Rattle.heap_parts.specs.StandsFor.{PartsStandFor}
 use Rattle.heap_parts.specs.Effects.{ref_place, layout_in}
+use Rattle.heap_parts.specs.Copies.{heap_with, with_copy}
 use Rattle.object_model.proofs.Members.{or_cases, or_first, or_second}
 use Rattle.heap_parts.proofs.PlaceLaws.{settled-old}
 use Rattle.heap_parts.proofs.StandLaws.{in_slot}
 use Rattle.heap_parts.proofs.RootStands.{object-found}
 use Rattle.heap_parts.proofs.CopyStands.{copy_step_stands}
-
--- the heap with other words
-abbrev pub heap_with : HeapParts → List Placed → HeapParts
-heap_with heap blocks = record heap { memory = record heap.memory { blocks = blocks } }
 
 items-cover : (card : ℕ) (hs : List Held) (name : ℕ → ℕ) (p i : ℕ) → IsTrue (list_any (λ h. h.place == p && holds_item card h i) hs)
     → IsTrue (list_any (λ h. name h.place == name p && holds_item card h i) hs)
@@ -123,8 +120,7 @@ front-differ (x ∷ xs) ys d = (front-all x xs ys d.0, front-differ xs ys d.1)
 
 -- The copy, with the words of the run: each is read before any is written.
 pub copy_stands : (heap : HeapParts) (store : Store) (root item from oi n : ℕ) → PartsStandFor heap store → CanCopy heap root item from oi n
-    → PartsStandFor (heap_with heap (with_run heap.memory.blocks (ref_place heap root item) (run_at heap.memory.blocks (ref_place heap from oi) n)))
-    (copy_refs store root item from oi n)
+    → PartsStandFor (with_copy heap root item from oi n) (copy_refs store root item from oi n)
 copy_stands heap store root item from oi n s can =
     let ps : List Placed = heap.memory.blocks in
     let target : ℕ = ref_place heap root item in let source : ℕ = ref_place heap from oi in

@@ -1,5 +1,5 @@
--- An item of a settled object is remembered before it is written.
-use Rattle.std.specs.Prelude.{◌≡◌, ℕ, ◌+◌, ◌^◌, ◌<◌, IsTrue}
+-- Items of a settled object are remembered before they are written.
+use Rattle.std.specs.Prelude.{◌≡◌, ℕ, ◌+◌, ◌^◌, ◌<◌, ◌≤◌, IsTrue}
 use Rattle.heap_space.specs.Places.{has}
 use Rattle.remember_cards.specs.Remembered.{RemembersMore, is_held}
 use Rattle.remember_cards.specs.Tracking.{IsTracked, items_head}
@@ -7,14 +7,14 @@ use Rattle.heap_parts.specs.Parts.{HeapParts, word_in}
 use Rattle.heap_parts.specs.Effects.{with_word_at}
 
 -- the flags of the object at a place tell what is remembered of it
-pub record CanRemember (heap : HeapParts) (place item : ℕ) : Type 0 where
+pub record CanRemember (heap : HeapParts) (place item count : ℕ) : Type 0 where
   pub there : IsTrue (has heap.memory.blocks place)
   pub tracked : IsTracked heap.remembered place (word_in heap place)
-  pub item_small : item + 1 < 2 ^ 64
+  pub items_small : item + count < 2 ^ 64
 
--- the item is remembered from then on, and no less than before; only the first word of the object changes beside that
-pub record RemembersItem (old new : HeapParts) (place item : ℕ) : Type 0 where
-  pub only : new ≡ record (with_word_at old place (items_head (word_in old place) 1)) { remembered = new.remembered }
+-- so many items are remembered from then on, and no less than before; only the first word of the object changes beside that
+pub record RemembersItems (old new : HeapParts) (place item count : ℕ) : Type 0 where
+  pub only : new ≡ record (with_word_at old place (items_head (word_in old place) count)) { remembered = new.remembered }
   pub more : RemembersMore old.remembered new.remembered place
   pub tracked : IsTracked new.remembered place (word_in new place)
-  pub covered : IsTrue (is_held new.remembered place item)
+  pub covered : (j : ℕ) → item ≤ j → j < item + count → IsTrue (is_held new.remembered place j)

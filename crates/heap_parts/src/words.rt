@@ -1,14 +1,15 @@
 //! Words of the objects in slots, and the slots.
-ghost use Rattle.std.specs.Prelude.{◌≡◌, ◌≢◌, ◌<◌, length};
+ghost use Rattle.std.specs.Prelude.{◌≡◌, ◌≢◌, ◌+◌, ◌<◌, ◌≤◌, length};
 ghost use Rattle.object_view.specs.Views.{HasObject};
 ghost use Rattle.object_model.specs.ObjectWords.{type_id_at};
 ghost use Rattle.heap_parts.specs.Parts.{word_in, place_in};
 ghost use Rattle.heap_parts.specs.Told.{kind_at};
 ghost use Rattle.heap_parts.specs.Effects.{birth_read, HasObjectIn, layout_in, int_place, ref_place, with_word_at, with_slot};
+ghost use Rattle.heap_parts.specs.Copies.{with_copy};
 
 use crate::parts::Parts;
 use object_model::Kind;
-use object_view::{int_at, ref_at, set_int, set_ref, view};
+use object_view::{int_at, move_refs, ref_at, set_int, set_ref, view};
 
 impl Parts {
     /// The place of the object in a slot, 0 where it is empty or not there.
@@ -108,5 +109,21 @@ impl Parts {
         let place = self.place(root);
         let v = view(&self.space, &self.types, place);
         ref_at(&self.space, v, place, item)
+    }
+
+    /// Copies so many references of the object in the slot `from`, from an item on, to items of the object in the slot
+    /// `root`. All are read as they were before. The cost is that of the copied words.
+    pub fn copy_refs(&mut self, root: u32, item: u64, from: u32, from_item: u64, count: u64)
+        requires object { HasObjectIn self.old root }
+        requires from_object { HasObjectIn self.old from }
+        requires items { item + count ≤ (layout_in self.old root).ref_count }
+        requires from_items { from_item + count ≤ (layout_in self.old from).ref_count }
+        ensures { self.new ≡ with_copy self.old root item from from_item count }
+    {
+        let a = self.place(root);
+        let b = self.place(from);
+        let to = view(&self.space, &self.types, a);
+        let source = view(&self.space, &self.types, b);
+        move_refs(&mut self.space, to, a, item, source, b, from_item, count);
     }
 }

@@ -1,7 +1,7 @@
 use Rattle.std.proofs.Common.{◌≡◌, ◌≤◌, ◌<◌, ℕ, [], sym, ap, ◌∙◌, subst, arith}
 use Rattle.text_model.specs.declared.command.Command.TheVariants.{Link}
 use Rattle.heap_parts.specs.Parts.{HeapParts, place_in}
-use Rattle.heap_parts.specs.Remembers.{CanRemember, RemembersItem}
+use Rattle.heap_parts.specs.Remembers.{CanRemember, RemembersItems}
 use Rattle.heap_parts.specs.Effects.{with_word_at, ref_place}
 use Rattle.heap_core.specs.Commands.{PartsDo}
 use Rattle.heap_core.proofs.Ready.{link_ready, link_few}
@@ -27,29 +27,29 @@ returns-then-place-lt-FIRST_OLD-clause-does c =
     (sym (c.link.ensures ∙ ap (λ (to : ℕ). with_word_at now (ref_place now c.args.root c.args.i) to) c.place-to.ensures))
     (link_young_does now c.args.root c.args.i c.args.from c.requires (young-at c.place-place.result (place_in now c.args.root) c.place-place.ensures c.if-place-lt-FIRST_OLD.true))
 
-pub remember_item-requires : goal.remember_item-requires
-remember_item-requires c =
+pub remember_items-requires : goal.remember_items-requires
+remember_items-requires c =
     let now : HeapParts = c.args.parts.now in
-    subst (λ (p : ℕ). CanRemember now p c.args.i) (sym c.place-place.ensures)
+    subst (λ (p : ℕ). CanRemember now p c.args.i 1) (sym c.place-place.ensures)
     (link_can now c.args.root c.args.i c.args.from c.requires (old-at c.place-place.result (place_in now c.args.root) c.place-place.ensures c.if-place-lt-FIRST_OLD.false)
     (link_few now c.args.root c.args.i c.args.from c.requires))
 
 pub link-requires-2-clause-object : goal.link-requires-2-clause-object
 link-requires-2-clause-object c =
-    let now : HeapParts = c.args.parts.now in let new : HeapParts = c.remember_item.new.self in
+    let now : HeapParts = c.args.parts.now in let new : HeapParts = c.remember_items.new.self in
     (link_ready_after now new c.args.root c.args.i c.args.from c.requires (old-at c.place-place.result (place_in now c.args.root) c.place-place.ensures c.if-place-lt-FIRST_OLD.false)
-    (subst (λ (p : ℕ). RemembersItem now new p c.args.i) c.place-place.ensures c.in_ok-remember_item.ensures.remembers)).object
+    (subst (λ (p : ℕ). RemembersItems now new p c.args.i 1) c.place-place.ensures c.in_ok-remember_items.ensures.remembers)).object
 
 pub link-requires-2-clause-item : goal.link-requires-2-clause-item
 link-requires-2-clause-item c =
-    let now : HeapParts = c.args.parts.now in let new : HeapParts = c.remember_item.new.self in
+    let now : HeapParts = c.args.parts.now in let new : HeapParts = c.remember_items.new.self in
     (link_ready_after now new c.args.root c.args.i c.args.from c.requires (old-at c.place-place.result (place_in now c.args.root) c.place-place.ensures c.if-place-lt-FIRST_OLD.false)
-    (subst (λ (p : ℕ). RemembersItem now new p c.args.i) c.place-place.ensures c.in_ok-remember_item.ensures.remembers)).item_in
+    (subst (λ (p : ℕ). RemembersItems now new p c.args.i 1) c.place-place.ensures c.in_ok-remember_items.ensures.remembers)).item_in
 
 pub returns-clause-does : goal.returns-clause-does
 returns-clause-does c =
-    let now : HeapParts = c.args.parts.now in let new : HeapParts = c.remember_item.new.self in
+    let now : HeapParts = c.args.parts.now in let new : HeapParts = c.remember_items.new.self in
     subst (λ (h : HeapParts). PartsDo now h (Link c.args.root c.args.i c.args.from) [])
     (sym (c.link-2.ensures ∙ ap (λ (to : ℕ). with_word_at new (ref_place new c.args.root c.args.i) to) c.place-to.ensures))
     (link_old_does now new c.args.root c.args.i c.args.from c.requires (old-at c.place-place.result (place_in now c.args.root) c.place-place.ensures c.if-place-lt-FIRST_OLD.false)
-    (subst (λ (p : ℕ). RemembersItem now new p c.args.i) c.place-place.ensures c.in_ok-remember_item.ensures.remembers))
+    (subst (λ (p : ℕ). RemembersItems now new p c.args.i 1) c.place-place.ensures c.in_ok-remember_items.ensures.remembers))
