@@ -4,6 +4,7 @@ ghost use Rattle.type_table.specs.Table.{value_at};
 ghost use Rattle.object_model.specs.SettingRanges.{AreInRange};
 ghost use Rattle.heap_parts.specs.Parts.{AreFresh};
 
+use finalizer_order::Finals;
 use heap_space::Space;
 use mark_steps::Gray;
 use nursery_gaps::Nursery;
@@ -33,6 +34,8 @@ pub struct Parts {
     /// The items that the next minor collection must look at.
     pub remember: Remember,
     pub weaks: Weaks,
+    /// The objects with finalizers.
+    pub finals: Finals,
     pub links: Links,
     /// What is still to be visited in this marking.
     pub gray: Gray,
@@ -58,10 +61,11 @@ pub struct Parts {
 }
 
 impl Model for Parts {
-    ghost use Rattle.std.specs.Prelude.{[]};
     ghost use Rattle.std.specs.Coded.{codes};
     ghost use Rattle.heap_parts.specs.Code.{old_code, homes_code};
     ghost use Rattle.remember_cards.specs.Remembering.{remembered_by};
+    ghost use Rattle.finalizer_order.specs.Finalizers.{placed, placed_queues};
+    ghost use Rattle.heap_parts.specs.NamedFinals.{births_told};
     ghost use Rattle.heap_parts.specs.Parts.{HeapParts};
 
     ghost Value = { HeapParts };
@@ -76,9 +80,10 @@ impl Model for Parts {
       remembered = remembered_by p.remember;
       shadows = p.shadows;
       weaks = p.weaks;
-      registered = [];
-      chosen = [];
-      queues = [];
+      registered = placed p.finals.registered;
+      chosen = placed p.finals.chosen;
+      queues = placed_queues p.finals.queues;
+      finals = births_told p.finals;
       links = p.links;
       gray = p.gray;
       slots = p.slots.items;
@@ -109,6 +114,7 @@ impl Parts {
             shadows: Shadows::new(alloc)?,
             remember: Remember::new(alloc, settings.card)?,
             weaks: Weaks::new(alloc)?,
+            finals: Finals::new(alloc, settings.queues)?,
             links: Links::new(alloc)?,
             gray: Gray::new(alloc)?,
             slots: vec![in alloc; 0; settings.roots as usize]?,
