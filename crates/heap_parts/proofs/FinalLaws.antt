@@ -1,6 +1,7 @@
 -- What the parts of a heap show of its finalizers: by places, and by births.
-use Rattle.std.proofs.Common.{◌≡◌, ℕ, Bool, IsFalse, List, [], ◌∷◌, ◌++◌, map, Option, Some, None, Result, OnOk, refl, sym, ap, ap₂, ◌∙◌, subst}
-use Rattle.std.specs.Prelude.{flat_map, option_map}
+use Rattle.std.proofs.Common.{◌≡◌, ℕ, List, [], ◌∷◌, ◌++◌, map, Option, Some, None, Result, Ok, Err, OnOk, refl, sym, ap, ap₂, ◌∙◌, inl, inr}
+use Rattle.std.specs.Prelude.{Bool, flat_map, option_map}
+use Rattle.std.proofs.lemmas.Bool.Decides.{eqb_tells}
 use Rattle.std.proofs.lemmas.List.{map-append}
 use Rattle.type_table.specs.Table.{Table, value_at}
 use Rattle.object_model.specs.Sets.{is_in}
@@ -9,9 +10,11 @@ use Rattle.finalizer_order.specs.Finalizers as entries
 use Rattle.finalizer_order.specs.Finalizers.{Finalizers, is_listed, births_of, placed, placed_queues, queued_entries}
 use Rattle.finalizer_order.specs.Queues as entry_queues
 use Rattle.store_model.specs.PlainCommands.{first_of, without_first}
-use Rattle.heap_parts.specs.NamedFinals.{births_told, final_births}
-use Rattle.heap_parts.specs.Parts.{HeapParts}
-use Rattle.heap_parts.specs.Registers.{birth_in, with_registered, next_place, without_next}
+use Rattle.heap_parts.specs.NamedFinals.{NamedFinals, births_told, final_births}
+use Rattle.heap_parts.specs.Parts.{HeapParts, word_in}
+use Rattle.heap_parts.specs.Effects.{birth_read}
+use Rattle.heap_parts.specs.Told.{if_there}
+use Rattle.heap_parts.specs.Registers.{birth_in, is_final, with_registered, next_place, without_next}
 use Rattle.heap_parts.proofs.QueueTables.{told_queues, value-told, with-told, without-told}
 
 births-beside : (entries : List Entry) → map (λ (e : ℕ × ℕ). e.0) (map (λ (e : Entry). (e.birth, e.queue)) entries) ≡ births_of entries
@@ -80,3 +83,22 @@ taken_shown heap finals queue = λ i. record (with_finals heap finals) {
   queues = taken-told (λ (e : Entry). e.place) finals.queues queue i;
   finals = record (births_told finals) { queues = taken-told (λ (e : Entry). e.birth) finals.queues queue i };
 }
+
+-- One more is registered, where memory is left for it.
+pub registered_ok : {E : Type 0} (before now : HeapParts) (finals new : Finalizers) (entry : Entry) (result : Result (Unit {0}) E) → with_finals before finals ≡ now → entry.birth ≡ birth_in before entry.place
+    → OnOk result (new ≡ entries.with_registered finals entry) → OnOk result (with_finals before new ≡ with_registered now entry.place entry.queue)
+registered_ok before now finals new entry (Ok done) view is e =
+    ap (λ (f : Finalizers). with_finals before f) e
+    ∙ (registered_shown before finals entry is ∙ ap (λ (h : HeapParts). with_registered h entry.place entry.queue) view)
+registered_ok before now finals new entry (Err error) view is e = e
+
+-- What is told of the object at a place: whether its birth is listed.
+pub registered_told : (now : HeapParts) (finals : Finalizers) (place birth : ℕ) → now.finals ≡ births_told finals → birth_read (word_in now) place ≡ Some birth
+    → is_listed finals birth ≡ if_there place (is_final now place)
+registered_told now finals place birth shown read = elim (eqb_tells place 0) [
+  | inl e ↦ absurd (let none : birth_read (word_in now) place ≡ None = rw e.0 refl in let no : ⊥ = cc in no)
+  | inr e ↦
+      let there : birth_read (word_in now) place ≡ Some (birth_in now place) = rw e.0 refl in
+      let same : birth ≡ birth_in now place = cc in
+      rw e.0 (sym (births_listed finals birth) ∙ ap₂ (λ (b : ℕ) (f : NamedFinals). is_in b (final_births f)) same (sym shown))
+]

@@ -4,6 +4,7 @@ ghost use Rattle.type_table.specs.Table.{value_at};
 ghost use Rattle.object_model.specs.SettingRanges.{AreInRange};
 ghost use Rattle.heap_parts.specs.Parts.{AreFresh};
 
+use crate::empty_parts::{lists, slots_and_pins, tables, words};
 use finalizer_order::Finals;
 use heap_space::Space;
 use mark_steps::Gray;
@@ -105,20 +106,24 @@ impl Parts {
         requires { AreInRange settings.now }
         ensures { IfOk result (λ parts. AreFresh parts settings.now types) }
     {
+        let (space, nursery, old_blocks) = words(alloc, settings)?;
+        let (remember, weaks, finals) = lists(alloc, settings)?;
+        let (shadows, links, gray) = tables(alloc)?;
+        let (slots, pins) = slots_and_pins(alloc, settings)?;
         Ok(Parts {
             settings: *settings,
             types,
-            space: Space::new(alloc, settings.nursery, settings.arena * settings.page)?,
-            nursery: Nursery::new(alloc, settings.nursery, settings.pins)?,
-            old_blocks: Old::new(alloc, settings)?,
-            shadows: Shadows::new(alloc)?,
-            remember: Remember::new(alloc, settings.card)?,
-            weaks: Weaks::new(alloc)?,
-            finals: Finals::new(alloc, settings.queues)?,
-            links: Links::new(alloc)?,
-            gray: Gray::new(alloc)?,
-            slots: vec![in alloc; 0; settings.roots as usize]?,
-            pins: Vec::new(alloc),
+            space,
+            nursery,
+            old_blocks,
+            shadows,
+            remember,
+            weaks,
+            finals,
+            links,
+            gray,
+            slots,
+            pins,
             phase: Phase::Scanning,
             threshold: settings.minimum,
             next: 1,
