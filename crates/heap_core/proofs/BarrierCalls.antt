@@ -25,14 +25,14 @@ use Rattle.heap_parts.specs.Headers.{IsSettledHeader}
 use Rattle.heap_parts.specs.StandsFor.{PartsStandFor}
 use Rattle.heap_parts.specs.Effects.{layout_in, ref_place, with_word_at}
 use Rattle.heap_parts.specs.Remembers.{CanRemember, RemembersItems}
-use Rattle.heap_parts.proofs.PlaceLaws.{old-is_in, is_in-old}
-use Rattle.heap_parts.proofs.HeaderLaws.{HeaderIs, header_is}
+use Rattle.frame_laws.proofs.PlaceLaws.{old-is_in, is_in-old}
+use Rattle.frame_laws.proofs.HeaderLaws.{HeaderIs, header_is}
 use Rattle.object_model.proofs.Members.{or_cases, or_first, or_second}
-use Rattle.heap_parts.proofs.SlotLaws.{slot-pointer}
-use Rattle.heap_parts.proofs.StandLaws.{in_slot, link_stands}
+use Rattle.frame_laws.proofs.SlotLaws.{slot-pointer}
+use Rattle.frame_laws.proofs.StandLaws.{in_slot, link_stands}
 use Rattle.store_model.proofs.RootLaws.{held_root}
-use Rattle.heap_parts.proofs.MinorNeeds.{settled_place}
-use Rattle.heap_parts.proofs.RememberStands.{remember_stands}
+use Rattle.frame_laws.proofs.MinorNeeds.{settled_place}
+use Rattle.command_laws.proofs.RememberStands.{remember_stands}
 use Rattle.heap_core.specs.Commands.{AreReady, PartsDo}
 use Rattle.heap_core.proofs.Ready.{HasRef, link_ready}
 use Rattle.heap_core.proofs.SlotCalls.{slot-holds}

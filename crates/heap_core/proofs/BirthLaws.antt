@@ -40,14 +40,14 @@ use Rattle.heap_parts.specs.Headers.{keeps_cards}
 use Rattle.heap_parts.specs.StandsFor.{PartsStandFor}
 use Rattle.heap_parts.specs.Births.{with_newborn, BearsYoung, with_old_blocks, TakesNone, BearsOld, old_header}
 use Rattle.old_space.proofs.JoinLaws.{HasBlocks-first}
-use Rattle.heap_parts.proofs.PlaceLaws.{placed_words}
+use Rattle.frame_laws.proofs.PlaceLaws.{placed_words}
 use Rattle.heap_parts.proofs.BlockLaws.{lies-kept}
-use Rattle.heap_parts.proofs.BirthStands.{IsBornOld, with_born, weaks_with, unsettled_with}
-use Rattle.heap_parts.proofs.YoungBirths.{born_memory, young_birth_stands}
-use Rattle.heap_parts.proofs.OldBirths.{old_memory, old_birth_stands}
-use Rattle.heap_parts.proofs.SpareLaws.{take_keeps}
-use Rattle.heap_parts.proofs.TakeLaws.{MemoryKeeps}
-use Rattle.heap_parts.proofs.HomeStands.{none_stands}
+use Rattle.birth_laws.proofs.BirthStands.{IsBornOld, with_born, weaks_with, unsettled_with}
+use Rattle.birth_laws.proofs.YoungBirths.{born_memory, young_birth_stands}
+use Rattle.birth_laws.proofs.OldBirths.{old_memory, old_birth_stands}
+use Rattle.birth_laws.proofs.SpareLaws.{take_keeps}
+use Rattle.frame_laws.proofs.TakeLaws.{MemoryKeeps}
+use Rattle.command_laws.proofs.HomeStands.{none_stands}
 use Rattle.heap_core.specs.Commands.{PartsKeep}
 
 -- what a birth needs beside room, of an object that is weak or not

@@ -15,8 +15,8 @@ use Rattle.heap_parts.specs.StandsFor.{PartsStandFor}
 use Rattle.heap_parts.specs.Effects.{HasObjectIn, layout_in}
 use Rattle.heap_parts.specs.Copies.{with_copy}
 use Rattle.heap_parts.specs.Remembers.{CanRemember, RemembersItems}
-use Rattle.heap_parts.proofs.CopyRuns.{CanCopy, copy_stands}
-use Rattle.heap_parts.proofs.StandLaws.{in_slot}
+use Rattle.command_laws.proofs.CopyRuns.{CanCopy, copy_stands}
+use Rattle.frame_laws.proofs.StandLaws.{in_slot}
 use Rattle.heap_core.specs.Commands.{AreReady, PartsDo}
 use Rattle.heap_core.proofs.BarrierCalls.{can_remember, items_remembered, layout_remembered, old_in_slot}
 use Rattle.heap_core.proofs.CopyReady.{HasCopy, copy_ready, copy_few}

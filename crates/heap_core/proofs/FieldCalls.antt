@@ -11,8 +11,8 @@ use Rattle.store_model.specs.Steps.{Does, int_at, put_int}
 use Rattle.heap_parts.specs.Parts.{HeapParts, word_in, place_in}
 use Rattle.heap_parts.specs.StandsFor.{PartsStandFor}
 use Rattle.heap_parts.specs.Effects.{with_word_at, int_place}
-use Rattle.heap_parts.proofs.StandLaws.{put_stands}
-use Rattle.heap_parts.proofs.RootStands.{object-found}
+use Rattle.frame_laws.proofs.StandLaws.{put_stands}
+use Rattle.frame_laws.proofs.RootStands.{object-found}
 use Rattle.heap_core.specs.Commands.{AreReady, PartsDo}
 use Rattle.heap_core.proofs.Ready.{HasInt, put_ready, get_ready}
 

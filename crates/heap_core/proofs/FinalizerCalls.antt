@@ -13,9 +13,9 @@ use Rattle.heap_parts.specs.Parts.{HeapParts, word_in, place_in}
 use Rattle.heap_parts.specs.StandsFor.{PartsStandFor}
 use Rattle.heap_parts.specs.Effects.{with_slot, birth_read}
 use Rattle.heap_parts.specs.Registers.{with_registered, next_place, without_next}
-use Rattle.heap_parts.proofs.SlotLaws.{pointer-some}
-use Rattle.heap_parts.proofs.StandLaws.{in_slot}
-use Rattle.heap_parts.proofs.QueueStands.{register_stands, next_there, next_named, next_stands}
+use Rattle.frame_laws.proofs.SlotLaws.{pointer-some}
+use Rattle.frame_laws.proofs.StandLaws.{in_slot}
+use Rattle.command_laws.proofs.QueueStands.{register_stands, next_there, next_named, next_stands}
 use Rattle.heap_core.specs.Commands.{AreReady, PartsDo}
 use Rattle.heap_core.proofs.FinalizerReady.{register_ready, next_ready}
 use Rattle.heap_core.proofs.LookLaws.{look_told}

@@ -23,16 +23,16 @@ use Rattle.heap_parts.specs.Headers.{IsYoungHeader, IsShadowHeader}
 use Rattle.heap_parts.specs.OldSpace.{blocks_of, reserved_blocks}
 use Rattle.heap_parts.specs.Places.{is_young, young_places, old_places, block_at}
 use Rattle.heap_parts.specs.StandsFor.{PartsStandFor}
-use Rattle.heap_parts.proofs.Members.{each-left, each-right}
+use Rattle.frame_laws.proofs.Members.{each-left, each-right}
 use Rattle.object_model.proofs.Members.{in-either, in-left}
 use Rattle.heap_parts.proofs.BlockLaws.{each-member}
-use Rattle.heap_parts.proofs.WriteWords.{each-both, each-imp, each-reserved}
-use Rattle.heap_parts.proofs.PlaceLaws.{is_in-young}
-use Rattle.heap_parts.proofs.StandLaws.{in_slot}
+use Rattle.frame_laws.proofs.WriteWords.{each-both, each-imp, each-reserved}
+use Rattle.frame_laws.proofs.PlaceLaws.{is_in-young}
+use Rattle.frame_laws.proofs.StandLaws.{in_slot}
 use Rattle.store_model.proofs.BirthSound.{kept-in}
-use Rattle.heap_parts.proofs.ReviveStands.{named-kept}
-use Rattle.heap_parts.proofs.SpareLaws.{take_keeps, spare_keeps, word_within}
-use Rattle.heap_parts.proofs.ReserveLaws.{with_home, reserve_stands, found-in}
+use Rattle.frame_laws.proofs.ReviveStands.{named-kept}
+use Rattle.birth_laws.proofs.SpareLaws.{take_keeps, spare_keeps, word_within}
+use Rattle.frame_laws.proofs.ReserveLaws.{with_home, reserve_stands, found-in}
 use Rattle.store_model.proofs.HomeSound.{home_sound}
 use Rattle.heap_core.proofs.HomeTold.{home_told, new_tells}
 

@@ -16,11 +16,11 @@ use Rattle.heap_parts.specs.Parts.{HeapParts, word_in, place_in, home_in}
 use Rattle.heap_parts.specs.Places.{is_young, old_places}
 use Rattle.heap_parts.specs.OldSpace.{husk_at}
 use Rattle.heap_parts.specs.StandsFor.{PartsStandFor}
-use Rattle.heap_parts.proofs.PlaceLaws.{young-is_in, old-is_in, is_in-old}
-use Rattle.heap_parts.proofs.StandLaws.{in_slot}
+use Rattle.frame_laws.proofs.PlaceLaws.{young-is_in, old-is_in, is_in-old}
+use Rattle.frame_laws.proofs.StandLaws.{in_slot}
 use Rattle.store_model.proofs.BirthSound.{kept-in}
-use Rattle.heap_parts.proofs.ReviveStands.{named-kept}
-use Rattle.heap_parts.proofs.HomeStands.{settled_home_free, tell_settled_stands}
+use Rattle.frame_laws.proofs.ReviveStands.{named-kept}
+use Rattle.command_laws.proofs.HomeStands.{settled_home_free, tell_settled_stands}
 
 -- a value that a key has is written again
 pub with_value-same : (table : Table ℕ) (key value : ℕ) → KeysRise table → value_at table key ≡ Some value → with_value table key value ≡ table

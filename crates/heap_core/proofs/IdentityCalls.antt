@@ -13,8 +13,8 @@ use Rattle.store_model.specs.Steps.{Does}
 use Rattle.heap_parts.specs.Parts.{HeapParts, place_in}
 use Rattle.heap_parts.specs.Places.{is_young}
 use Rattle.heap_parts.specs.StandsFor.{PartsStandFor}
-use Rattle.heap_parts.proofs.PlaceLaws.{settled-old}
-use Rattle.heap_parts.proofs.StandLaws.{in_slot}
+use Rattle.frame_laws.proofs.PlaceLaws.{settled-old}
+use Rattle.frame_laws.proofs.StandLaws.{in_slot}
 use Rattle.heap_core.specs.Commands.{AreReady, PartsDo}
 use Rattle.heap_core.proofs.FullSlots.{place_ready}
 use Rattle.heap_core.proofs.HomeTold.{settled_tells}

@@ -29,11 +29,11 @@ use Rattle.heap_parts.specs.Places.{is_young}
 use Rattle.heap_parts.specs.StandsFor.{PartsStandFor}
 use Rattle.heap_parts.specs.Told.{kind_from, kind_at, if_there, has_p_link_at, told, room_told}
 use Rattle.object_model.proofs.Members.{in-either}
-use Rattle.heap_parts.proofs.PlaceLaws.{placed_words, is_in-young, is_in-old, young-is_in}
-use Rattle.heap_parts.proofs.SlotLaws.{slot-pointer, pointer-some}
+use Rattle.frame_laws.proofs.PlaceLaws.{placed_words, is_in-young, is_in-old, young-is_in}
+use Rattle.frame_laws.proofs.SlotLaws.{slot-pointer, pointer-some}
 use Rattle.store_model.proofs.StructLaws.{value_at-objects}
-use Rattle.heap_parts.proofs.BirthNames.{entries-names, rises-unnamed}
-use Rattle.heap_parts.proofs.ToldLaws.{in-named, p_link-named}
+use Rattle.birth_laws.proofs.BirthNames.{entries-names, rises-unnamed}
+use Rattle.command_laws.proofs.ToldLaws.{in-named, p_link-named}
 use Rattle.heap_core.proofs.SlotCalls.{slot-holds}
 
 -- the kind of an object is read from its words

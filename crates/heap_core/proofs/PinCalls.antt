@@ -16,11 +16,11 @@ use Rattle.heap_parts.specs.Places.{is_young}
 use Rattle.heap_parts.specs.Lists.{named_entries}
 use Rattle.heap_parts.specs.Pins.{with_pin, without_pin}
 use Rattle.heap_parts.specs.StandsFor.{PartsStandFor}
-use Rattle.heap_parts.proofs.StandLaws.{in_slot}
-use Rattle.heap_parts.proofs.PlaceLaws.{young-is_in}
-use Rattle.heap_parts.proofs.RootStands.{object-found}
-use Rattle.heap_parts.proofs.PinStands.{pin_stands}
-use Rattle.heap_parts.proofs.UnpinStands.{unpin_stands}
+use Rattle.frame_laws.proofs.StandLaws.{in_slot}
+use Rattle.frame_laws.proofs.PlaceLaws.{young-is_in}
+use Rattle.frame_laws.proofs.RootStands.{object-found}
+use Rattle.command_laws.proofs.PinStands.{pin_stands}
+use Rattle.command_laws.proofs.UnpinStands.{unpin_stands}
 use Rattle.heap_core.specs.Commands.{AreReady, PartsDo}
 use Rattle.heap_core.specs.Pinning.{can_pin_in}
 use Rattle.heap_core.proofs.IdentityCalls.{is_settled-by}

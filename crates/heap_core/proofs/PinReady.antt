@@ -23,9 +23,9 @@ use Rattle.heap_parts.specs.Places.{is_young}
 use Rattle.heap_parts.specs.Lists.{named_entries}
 use Rattle.heap_parts.specs.StandsFor.{PartsStandFor}
 use Rattle.heap_parts.specs.Told.{if_there}
-use Rattle.heap_parts.proofs.PlaceLaws.{is_in-young, is_in-old}
-use Rattle.heap_parts.proofs.StandLaws.{in_slot}
-use Rattle.heap_parts.proofs.BirthNames.{entries-names}
+use Rattle.frame_laws.proofs.PlaceLaws.{is_in-young, is_in-old}
+use Rattle.frame_laws.proofs.StandLaws.{in_slot}
+use Rattle.birth_laws.proofs.BirthNames.{entries-names}
 use Rattle.store_model.proofs.PinLaws.{keys}
 use Rattle.heap_core.specs.Commands.{AreReady}
 use Rattle.heap_core.proofs.Ready.{passed}

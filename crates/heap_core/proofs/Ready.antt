@@ -15,7 +15,7 @@ use Rattle.store_model.specs.Checks.{Checks, first_reason, int_checks, ref_check
 use Rattle.heap_parts.specs.Parts.{HeapParts, word_in, place_in}
 use Rattle.heap_parts.specs.Told.{kind_from, kind_at}
 use Rattle.heap_parts.specs.Effects.{HasObjectIn, layout_in}
-use Rattle.heap_parts.proofs.StandLaws.{in_slot}
+use Rattle.frame_laws.proofs.StandLaws.{in_slot}
 use Rattle.heap_core.specs.Commands.{AreStanding, AreReady}
 
 -- a check that is not the first to hold does not hold

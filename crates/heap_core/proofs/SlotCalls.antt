@@ -16,9 +16,9 @@ use Rattle.store_model.specs.Steps.{Does, ref_at}
 use Rattle.heap_parts.specs.Parts.{HeapParts, word_in, place_in}
 use Rattle.heap_parts.specs.StandsFor.{PartsStandFor}
 use Rattle.heap_parts.specs.Effects.{with_slot, birth_read, ref_place}
-use Rattle.heap_parts.proofs.SlotLaws.{held-named, slot-pointer, pointer-some}
-use Rattle.heap_parts.proofs.StandLaws.{in_slot}
-use Rattle.heap_parts.proofs.RootStands.{ref_is, load_stands, move_stands, drop_stands}
+use Rattle.frame_laws.proofs.SlotLaws.{held-named, slot-pointer, pointer-some}
+use Rattle.frame_laws.proofs.StandLaws.{in_slot}
+use Rattle.frame_laws.proofs.RootStands.{ref_is, load_stands, move_stands, drop_stands}
 use Rattle.heap_core.specs.Commands.{AreReady, PartsDo}
 use Rattle.heap_core.proofs.Ready.{HasRef, load_ready}
 

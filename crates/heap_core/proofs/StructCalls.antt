@@ -22,14 +22,14 @@ use Rattle.store_model.specs.PlainCommands.{link_struct, lower_struct, dealloc_l
 use Rattle.heap_parts.specs.Parts.{HeapParts, word_in, place_in}
 use Rattle.heap_parts.specs.StandsFor.{PartsStandFor}
 use Rattle.heap_parts.specs.Effects.{with_slot, birth_read}
-use Rattle.heap_parts.proofs.StandLaws.{in_slot}
-use Rattle.heap_parts.proofs.SlotLaws.{pointer-some}
-use Rattle.heap_parts.proofs.BirthNames.{rises-unnamed}
-use Rattle.heap_parts.proofs.ToldLaws.{p_link-named}
+use Rattle.frame_laws.proofs.StandLaws.{in_slot}
+use Rattle.frame_laws.proofs.SlotLaws.{pointer-some}
+use Rattle.birth_laws.proofs.BirthNames.{rises-unnamed}
+use Rattle.command_laws.proofs.ToldLaws.{p_link-named}
 use Rattle.store_model.proofs.StructLaws.{first-value}
-use Rattle.heap_parts.proofs.StructStands.{struct-named, inc_stands, make_link_stands}
-use Rattle.heap_parts.proofs.DecStands.{dec_stands, next_dead_stands}
-use Rattle.heap_parts.proofs.ReviveStands.{renamed-none, renamed-full, place_or_nil, to_obj_stands}
+use Rattle.frame_laws.proofs.StructStands.{struct-named, inc_stands, make_link_stands}
+use Rattle.command_laws.proofs.DecStands.{dec_stands, next_dead_stands}
+use Rattle.frame_laws.proofs.ReviveStands.{renamed-none, renamed-full, place_or_nil, to_obj_stands}
 use Rattle.heap_core.specs.Commands.{AreReady, PartsDo}
 use Rattle.heap_core.specs.StructLines.{dec_lines}
 use Rattle.heap_core.proofs.StructReady.{inc_ready, dec_ready, from_obj_ready, to_obj_ready, make_link_ready}

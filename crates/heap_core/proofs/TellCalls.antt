@@ -17,8 +17,8 @@ use Rattle.heap_parts.specs.Births.{TakesNone, with_old_blocks}
 use Rattle.heap_parts.specs.StandsFor.{PartsStandFor}
 use Rattle.heap_parts.specs.OldSpace.{blocks_of}
 use Rattle.heap_parts.specs.Places.{young_places, old_places}
-use Rattle.heap_parts.proofs.PlaceLaws.{is_in-young}
-use Rattle.heap_parts.proofs.StandLaws.{in_slot}
+use Rattle.frame_laws.proofs.PlaceLaws.{is_in-young}
+use Rattle.frame_laws.proofs.StandLaws.{in_slot}
 use Rattle.heap_core.specs.Commands.{AreStanding, PartsDo, PartsKeep}
 use Rattle.heap_core.specs.Telling.{NeedsHome, PartsTell}
 use Rattle.heap_core.proofs.BirthLaws.{none_keeps}

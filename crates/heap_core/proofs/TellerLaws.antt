@@ -15,8 +15,8 @@ use Rattle.heap_parts.specs.Parts.{HeapParts, word_in, place_in}
 use Rattle.heap_parts.specs.Told.{kind_at}
 use Rattle.heap_parts.specs.StandsFor.{PartsStandFor}
 use Rattle.heap_parts.specs.Effects.{HasObjectIn}
-use Rattle.heap_parts.proofs.StandLaws.{in_slot}
-use Rattle.heap_parts.proofs.RootStands.{object-found}
+use Rattle.frame_laws.proofs.StandLaws.{in_slot}
+use Rattle.frame_laws.proofs.RootStands.{object-found}
 use Rattle.heap_core.specs.Commands.{AreStanding}
 
 -- where a kind is told, there is an object

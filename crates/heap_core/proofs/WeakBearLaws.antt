@@ -20,7 +20,7 @@ use Rattle.store_model.specs.Steps.{Does}
 use Rattle.heap_parts.specs.Parts.{HeapParts, place_in}
 use Rattle.heap_parts.specs.StandsFor.{PartsStandFor}
 use Rattle.heap_parts.specs.WeakBirths.{HasWeakRoom, BearsWeakYoung, BearsWeakOld, BearsWeak}
-use Rattle.heap_parts.proofs.SlotLaws.{slot-pointer}
+use Rattle.frame_laws.proofs.SlotLaws.{slot-pointer}
 use Rattle.heap_core.specs.Commands.{AreReady}
 use Rattle.heap_core.specs.Bearing.{PartsAppend, IsFitting}
 use Rattle.heap_core.proofs.SlotCalls.{slot-holds}

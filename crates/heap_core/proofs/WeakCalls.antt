@@ -6,8 +6,8 @@ use Rattle.object_view.specs.Views.{HasObject}
 use Rattle.store_model.specs.Steps.{Does}
 use Rattle.heap_parts.specs.Parts.{HeapParts, word_in}
 use Rattle.heap_parts.specs.Effects.{with_slot, birth_read, layout_in}
-use Rattle.heap_parts.proofs.SlotLaws.{pointer-some}
-use Rattle.heap_parts.proofs.ReviveStands.{target_is, target_pointer, deref_stands}
+use Rattle.frame_laws.proofs.SlotLaws.{pointer-some}
+use Rattle.frame_laws.proofs.ReviveStands.{target_is, target_pointer, deref_stands}
 use Rattle.heap_core.specs.Commands.{AreReady, PartsDo}
 use Rattle.heap_core.proofs.SlotCalls.{birth-named}
 use Rattle.heap_core.proofs.WeakReady.{deref_ready}

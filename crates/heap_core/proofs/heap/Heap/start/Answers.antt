@@ -1,4 +1,4 @@
-use Rattle.heap_parts.proofs.Start.{started_stands}
+use Rattle.command_laws.proofs.Start.{started_stands}
 use Rattle.heap_core.proofs.heap.Heap.start.Goals as goal
 
 pub returns-clause-empty : goal.returns-clause-empty

@@ -1,0 +1,2 @@
+//! Laws of births, in the nursery and outside it.
+#![tactic(auto)]

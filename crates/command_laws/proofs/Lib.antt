@@ -1,0 +1,11 @@
+pub mod LinkLaws
+pub mod CopyStands
+pub mod CopyRuns
+pub mod QueueStands
+pub mod DecStands
+pub mod PinStands
+pub mod HomeStands
+pub mod RememberStands
+pub mod UnpinStands
+pub mod ToldLaws
+pub mod Start
