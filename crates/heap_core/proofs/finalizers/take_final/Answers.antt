@@ -16,7 +16,7 @@ birth_of-birth-requires c =
     let now : HeapParts = c.args.parts.now in
     let place : ℕ = place_found (next_place now c.args.queue) in
     let place_is : c.unwrap_or-place.result ≡ place = c.unwrap_or-place.ensures ∙ ap place_found c.next_final.ensures.first in
-    let after : HeapParts = c.next_final.new.parts in
+    let after : HeapParts = c.next_final.new.self in
     subst (λ (p : ℕ). p ≢ 0 → HasObject after.memory after.setup.types p) (sym place_is)
     (subst (λ (h : HeapParts). place ≢ 0 → HasObject h.memory h.setup.types place) (sym c.next_final.ensures.taken) (next_whole now c.args.to c.args.queue c.requires))
 
