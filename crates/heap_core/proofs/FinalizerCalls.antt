@@ -1,5 +1,5 @@
 -- What calls on objects with finalizers do.
-use Rattle.std.proofs.Common.{◌≡◌, ◌≢◌, ℕ, ◌<◌, Bool, [], ◌∷◌, Option, refl, sym, ap, ◌∙◌, subst, arith}
+use Rattle.std.proofs.Common.{◌≡◌, ◌≢◌, ℕ, ◌<◌, [], ◌∷◌, Option, refl, sym, ap, ◌∙◌, subst, arith}
 use Rattle.text_model.specs.declared.command.Command.TheVariants.{Register, NextFinal}
 use Rattle.text_model.specs.declared.line.Line.TheVariants.{NextIs}
 use Rattle.object_model.specs.Holds.{IsPointer}
@@ -17,7 +17,7 @@ use Rattle.frame_laws.proofs.SlotLaws.{pointer-some}
 use Rattle.frame_laws.proofs.StandLaws.{in_slot}
 use Rattle.command_laws.proofs.QueueStands.{register_stands, next_there, next_named, next_stands}
 use Rattle.heap_core.specs.Commands.{AreReady, PartsDo}
-use Rattle.heap_core.proofs.FinalizerReady.{register_ready, next_ready}
+use Rattle.heap_core.proofs.FinalizerReady.{register_ready}
 use Rattle.heap_core.proofs.LookLaws.{look_told}
 use Rattle.heap_core.proofs.SlotCalls.{birth-named}
 use Rattle.heap_core.proofs.StructCalls.{place_found, place-found, found-pointer, found-named}

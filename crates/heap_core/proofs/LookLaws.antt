@@ -1,9 +1,8 @@
 -- A look at a store that the parts of a heap stand for sees what they tell.
 use Rattle.std.proofs.Common.{◌≡◌, ◌≢◌, ℕ, ◌+◌, Bool, true, false, IsTrue, List, [], ◌∷◌, ◌++◌, map, Option, Some, None, option_map, refl, sym, ap, ap₂, ◌∙◌, subst, inl, inr, arith}
-use Rattle.std.specs.Prelude.{flat_map, is_some, option_and_then}
+use Rattle.std.specs.Prelude.{is_some, option_and_then}
 use Rattle.std.proofs.lemmas.Bool.{cases_Bool}
 use Rattle.std.proofs.lemmas.Bool.Decides.{eqb_tells}
-use Rattle.std.proofs.lemmas.List.{map-append}
 use Rattle.type_table.specs.declared.info.TypeInfo.{TypeInfo}
 use Rattle.type_table.specs.Table.{Table, KeysRise, value_at}
 use Rattle.object_header.specs.Words.{has_flag}
@@ -28,7 +27,6 @@ use Rattle.heap_parts.specs.Registers.{is_final}
 use Rattle.heap_parts.specs.Places.{is_young}
 use Rattle.heap_parts.specs.StandsFor.{PartsStandFor}
 use Rattle.heap_parts.specs.Told.{kind_from, kind_at, if_there, has_p_link_at, told, room_told}
-use Rattle.object_model.proofs.Members.{in-either}
 use Rattle.frame_laws.proofs.PlaceLaws.{placed_words, is_in-young, is_in-old, young-is_in}
 use Rattle.frame_laws.proofs.SlotLaws.{slot-pointer, pointer-some}
 use Rattle.store_model.proofs.StructLaws.{value_at-objects}

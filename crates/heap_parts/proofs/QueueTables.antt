@@ -1,5 +1,5 @@
 -- Queues whose elements are told in another way.
-use Rattle.std.proofs.Common.{◌≡◌, ℕ, Bool, true, false, nat_eq, List, [], ◌∷◌, map, Option, Some, None, refl, ap}
+use Rattle.std.proofs.Common.{◌≡◌, ℕ, Bool, true, false, nat_eq, List, [], ◌∷◌, map, refl, ap}
 use Rattle.std.specs.Prelude.{option_map, ◌==◌, cond, not, nat_lt}
 use Rattle.std.proofs.lemmas.Map.Made.{lookup-map_values}
 use Rattle.type_table.specs.Table.{Table, value_at, with_value, without_key}

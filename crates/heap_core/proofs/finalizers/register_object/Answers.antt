@@ -1,4 +1,4 @@
-use Rattle.std.proofs.Common.{ℕ, IsFalse, [], sym, ap, ◌∙◌, subst}
+use Rattle.std.proofs.Common.{ℕ, [], sym, ap, ◌∙◌, subst}
 use Rattle.text_model.specs.declared.command.Command.TheVariants.{Register}
 use Rattle.object_view.specs.Views.{HasObject}
 use Rattle.heap_parts.specs.Parts.{HeapParts}
