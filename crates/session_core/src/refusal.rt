@@ -377,8 +377,5 @@ impl Session {
 fn is_unbuilt(command: &Command) -> bool
     ensures { result ≡ is_unbuilt command.now }
 {
-    matches!(
-        *command,
-        Command::Minor | Command::Step | Command::Collect
-    )
+    matches!(*command, Command::Minor | Command::Step | Command::Collect)
 }

@@ -19,3 +19,7 @@ pub returns-in_ok-kept-in-Used-clause-performs : goal.returns-in_ok-kept-in-Used
 returns-in_ok-kept-in-Used-clause-performs c =
     told c.args.heap.now c.args.heap.now c.args.command.now _ c.args.out.now.items _ c.push_reserved-in-Used.new.self.items
     c.in-Used.is c.in_ok-kept-in-Used.ensures.performs c.push_reserved-in-Used.ensures.items
+
+pub returns-in-CopyRefs-clause-performs : goal.returns-in-CopyRefs-clause-performs
+returns-in-CopyRefs-clause-performs c =
+    quiet c.args.heap.now c.copy_refs.new.self c.args.command.now _ c.args.out.now.items c.copy_refs.result c.in-CopyRefs.is c.copy_refs.ensures.performs
