@@ -1,0 +1,27 @@
+-- A list is gone over, and what passes a test is queued.
+use Rattle.std.proofs.Common.{◌≡◌, ℕ, ◌+◌, ◌≤◌, ◌<◌, Bool, true, false, cond, List, [], ◌∷◌, ◌++◌, length, take, get_or, append_assoc, sym, ap, ◌∙◌}
+use Rattle.std.specs.Prelude.{filter, not}
+use Rattle.std.proofs.lemmas.List.{append-nil}
+use Rattle.std.proofs.lemmas.List.Elements.{filter_more}
+use Rattle.std.proofs.lemmas.Bool.Decides.{nat_tests}
+use Rattle.heap_parts.specs.Places.{is_young}
+use Rattle.std.proofs.Common.{arith, refl}
+
+pub queued : (test : ℕ → Bool) (xs : List ℕ) (i x d : ℕ) (old now new : List ℕ) → i < length xs → get_or xs i d ≡ x → now ≡ old ++ filter test (take i xs)
+    → test x ≡ true → new ≡ now ++ x ∷ [] → new ≡ old ++ filter test (take (i + 1) xs)
+queued test xs i x d old now new l e was is more =
+    more ∙ (ap (λ (ys : List ℕ). ys ++ x ∷ []) was ∙ (append_assoc old (filter test (take i xs)) (x ∷ [])
+    ∙ ap (λ (ys : List ℕ). old ++ ys) (sym (filter_more test xs i d l ∙ ap (λ (y : ℕ). filter test (take i xs) ++ cond (test y) (y ∷ []) []) e
+    ∙ ap (λ (b : Bool). filter test (take i xs) ++ cond b (x ∷ []) []) is))))
+
+pub passed : (test : ℕ → Bool) (xs : List ℕ) (i x d : ℕ) (old now : List ℕ) → i < length xs → get_or xs i d ≡ x → now ≡ old ++ filter test (take i xs)
+    → test x ≡ false → now ≡ old ++ filter test (take (i + 1) xs)
+passed test xs i x d old now l e was out =
+    was ∙ ap (λ (ys : List ℕ). old ++ ys) (sym (filter_more test xs i d l ∙ (ap (λ (y : ℕ). filter test (take i xs) ++ cond (test y) (y ∷ []) []) e
+    ∙ (ap (λ (b : Bool). filter test (take i xs) ++ cond b (x ∷ []) []) out ∙ append-nil (filter test (take i xs))))))
+
+pub is_old : (x : ℕ) → 4294967296 ≤ x → not (is_young x) ≡ true
+is_old x l = grind (arith, nat_tests)
+
+pub is_not_old : (x : ℕ) → x < 4294967296 → not (is_young x) ≡ false
+is_not_old x l = grind (arith, nat_tests)

@@ -1,0 +1,13 @@
+use Rattle.std.proofs.Common.{List, sym, ap, ◌∙◌, subst}
+use Rattle.text_model.specs.declared.line.Line.{Line}
+use Rattle.heap_parts.specs.contracts.parts.Parts.{the_view}
+use Rattle.heap_phases.proofs.StartCalls.{pins_young, start_major}
+use Rattle.heap_phases.proofs.roots.start.Goals as goal
+
+pub queue_roots-requires : goal.queue_roots-requires
+queue_roots-requires c = pins_young c.args.parts.now c.requires.can.store c.requires.can.collected.stands
+
+pub returns-clause-steps : goal.returns-clause-steps
+returns-clause-steps c =
+    start_major c.args.parts.now (the_view c.parts.inside) c.args.events.now.items c.push.new.self.items c.requires.can c.requires.phase
+    (c.parts.view_is ∙ c.in_ok-queue_roots.ensures) c.in_ok-push.ensures.items
