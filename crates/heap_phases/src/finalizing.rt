@@ -1,4 +1,9 @@
 //! The last step of a cycle.
+ghost use Rattle.std.specs.Prelude.{◌≡◌, ◌<◌, ◌^◌, OnOk, IfOk};
+ghost use Rattle.text_model.specs.declared.line.Phase.TheVariants.{Finalizing};
+ghost use Rattle.store_model.specs.Sweeping.{next_threshold as next_threshold_of};
+ghost use Rattle.heap_parts.specs.Collects.{StepsMajor};
+ghost use Rattle.heap_phases.specs.Steps.{CanStep, CountsHusks};
 
 use crate::StepEnd;
 use heap_parts::Parts;
@@ -6,7 +11,15 @@ use std::alloc::AllocError;
 use text_model::{Line, Phase};
 
 /// The cycle ends, and the threshold of the next one is set.
-pub(crate) fn finalize(parts: &mut Parts, events: &mut Vec<Line>) -> Result<StepEnd, AllocError> {
+pub(crate) fn finalize(
+    parts: &mut Parts,
+    events: &mut Vec<Line>,
+) -> Result<StepEnd, AllocError>
+    requires can { CanStep parts.old }
+    requires phase { parts.old.phase ≡ Finalizing }
+    ensures steps { OnOk result (StepsMajor parts.old parts.new events.old.items events.new.items) }
+    ensures counts { IfOk result (λ end. CountsHusks parts.old parts.new end) }
+{
     events.push(Line::Stepped {
         from: Phase::Finalizing,
         to: Phase::Scanning,
@@ -22,8 +35,12 @@ pub(crate) fn finalize(parts: &mut Parts, events: &mut Vec<Line>) -> Result<Step
 }
 
 /// The threshold of the next cycle: at most 182 percent of the old words, at most 140 percent of the last one, and at
-/// least the minimum. (That it is at most 182 percent is PyPy's rule; whole percents are this project's own.)
-fn next_threshold(minimum: u64, words: u64, threshold: u64) -> u64 {
+/// least the minimum. (The rule is PyPy's, in whole percents.)
+fn next_threshold(minimum: u64, words: u64, threshold: u64) -> u64
+    requires words { words < 2 ^ 32 }
+    requires threshold { threshold < 2 ^ 32 }
+    ensures { result ≡ next_threshold_of minimum words threshold }
+{
     let grown = (words * 182 / 100).min(threshold * 140 / 100);
     minimum.max(grown)
 }
