@@ -1,4 +1,13 @@
 //! A step of sweeping.
+ghost use Rattle.std.specs.Prelude.{◌≡◌, ◌<◌, ◌^◌, not, OnOk, IfOk};
+ghost use Rattle.std.specs.List.Sorted.{IsNonDecreasing};
+ghost use Rattle.object_model.specs.Sets.{is_in};
+ghost use Rattle.text_model.specs.declared.line.Phase.TheVariants.{Sweeping};
+ghost use Rattle.store_model.specs.Store.{husk_words};
+ghost use Rattle.store_model.specs.Sweeping.{husks_where};
+ghost use Rattle.heap_parts.specs.Collects.{StepsMajor};
+ghost use Rattle.heap_phases.specs.Steps.{CanStep, CountsHusks};
+ghost use Rattle.heap_phases.specs.Swept.{freed_words, phase_of};
 
 use crate::StepEnd;
 use crate::telling::tell_freed;
@@ -13,7 +22,12 @@ pub(crate) fn sweep_step(
     parts: &mut Parts,
     freed: &mut Vec<u64>,
     events: &mut Vec<Line>,
-) -> Result<StepEnd, AllocError> {
+) -> Result<StepEnd, AllocError>
+    requires can { CanStep parts.old }
+    requires phase { parts.old.phase ≡ Sweeping }
+    ensures steps { OnOk result (StepsMajor parts.old parts.new events.old.items events.new.items) }
+    ensures counts { IfOk result (λ end. CountsHusks parts.old parts.new end) }
+{
     freed.clear();
     let units = parts.settings.sweep;
     let state = sweep(units, &mut parts.old_blocks, &mut parts.space, freed)?;
@@ -32,7 +46,9 @@ pub(crate) fn sweep_step(
 }
 
 /// The phase after a step of sweeping.
-fn phase_after(state: SweepState) -> Phase {
+fn phase_after(state: SweepState) -> Phase
+    ensures { result ≡ phase_of state }
+{
     match state {
         SweepState::Working => Phase::Sweeping,
         SweepState::Finished => Phase::Finalizing,
@@ -40,22 +56,41 @@ fn phase_after(state: SweepState) -> Phase {
 }
 
 /// Takes the husks of these births, which stand in rising order, off the list, and tells their words.
-fn drop_husks(husks: &mut Vec<(u64, u64)>, freed: &[u64]) -> u64 {
+fn drop_husks(husks: &mut Vec<(u64, u64)>, freed: &[u64]) -> u64
+    requires rising { IsNonDecreasing freed.now }
+    requires fits { husk_words husks.old.items < 2 ^ 64 }
+    ensures words { result ≡ freed_words husks.old.items freed.now }
+    ensures left { husks.new.items ≡ husks_where husks.old.items (λ x. not (is_in x freed.now)) }
+{
     let words = words_freed(husks, freed);
-    husks.retain(|husk| !holds(freed, husk.0));
+    husks.retain(
+        |husk: &(u64, u64)| -> bool
+            requires { IsNonDecreasing freed.now }
+            ensures { result ≡ not (is_in husk.now.0 freed.entry.now) }
+        { !holds(freed, husk.0) },
+    );
     words
 }
 
 /// The words of the husks of these births.
-fn words_freed(husks: &[(u64, u64)], freed: &[u64]) -> u64 {
-    husks
-        .iter()
-        .filter(|husk| holds(freed, husk.0))
-        .map(|husk| husk.1)
-        .sum()
+fn words_freed(husks: &[(u64, u64)], freed: &[u64]) -> u64
+    requires rising { IsNonDecreasing freed.now }
+    requires fits { husk_words husks.now < 2 ^ 64 }
+    ensures { result ≡ freed_words husks.now freed.now }
+{
+    let mut words = 0;
+    for husk in husks {
+        if holds(freed, husk.0) {
+            words += husk.1;
+        }
+    }
+    words
 }
 
 /// Whether a list in rising order holds the number.
-fn holds(numbers: &[u64], number: u64) -> bool {
+fn holds(numbers: &[u64], number: u64) -> bool
+    requires { IsNonDecreasing numbers.now }
+    ensures { result ≡ is_in number numbers.now }
+{
     numbers.binary_search(&number).is_ok()
 }
