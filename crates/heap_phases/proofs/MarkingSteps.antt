@@ -32,7 +32,7 @@ use Rattle.heap_phases.proofs.PlaceChain.{AtPlaces, VisitsTo, visits_stand, with
 use Rattle.heap_phases.proofs.MajorSteps.{StepsTo, EndsTo, in-phase}
 
 -- the order of a step, where it begins
-step-order : (heap : HeapParts) (store : Store) (c : IsCollected heap store) → heap.phase ≡ Marking
+pub step-order : (heap : HeapParts) (store : Store) (c : IsCollected heap store) → heap.phase ≡ Marking
     → StepOrder store.kept store.settled store.visited (map c.stands.name heap.gray) (is_held_of heap.remembered c.stands.name) store.unreached
 step-order heap store c marking = record {
   order = c.stands.order;
@@ -43,7 +43,7 @@ step-order heap store c marking = record {
 }
 
 -- the words of what was visited, by places
-words-visited : (heap : HeapParts) (store : Store) (s : PartsStandFor heap store) (ps : List ℕ) → AreAmong s.places ps
+pub words-visited : (heap : HeapParts) (store : Store) (s : PartsStandFor heap store) (ps : List ℕ) → AreAmong s.places ps
     → visited_words store.kept (map s.name ps) ≡ sum_by (words_at heap.setup.types (word_in heap)) ps
 words-visited heap store s [] there = refl
 words-visited heap store s (p ∷ ps) there =
@@ -59,7 +59,7 @@ take-map f zero xs = refl
 take-map f (suc n) [] = refl
 take-map f (suc n) (x ∷ xs) = ap (λ (ys : List _). f x ∷ ys) (take-map f n xs)
 
-take-among : (places : List ℕ) (n : ℕ) (ps : List ℕ) → AreAmong places ps → AreAmong places (take n ps)
+pub take-among : (places : List ℕ) (n : ℕ) (ps : List ℕ) → AreAmong places ps → AreAmong places (take n ps)
 take-among places zero ps there p t = absurd (is_in-nil p t)
 take-among places (suc n) [] there p t = there p t
 take-among places (suc n) (q ∷ ps) there p t = elim (is_in-cases p q (take n ps) t) [
@@ -67,7 +67,7 @@ take-among places (suc n) (q ∷ ps) there p t = elim (is_in-cases p q (take n p
   | inr u ↦ take-among places n ps (λ r v. there r (is_in-tail r q ps v)) p u
 ]
 
-words-but-last : (heap : HeapParts) (store : Store) (s : PartsStandFor heap store) (ps : List ℕ) → AreAmong s.places ps
+pub words-but-last : (heap : HeapParts) (store : Store) (s : PartsStandFor heap store) (ps : List ℕ) → AreAmong s.places ps
     → visited_words store.kept (take (length (map s.name ps) - 1) (map s.name ps)) ≡ sum_by (words_at heap.setup.types (word_in heap)) (take (length ps - 1) ps)
 words-but-last heap store s ps there =
     ap (λ (n : ℕ). visited_words store.kept (take (n - 1) (map s.name ps))) (length-map ps s.name)
@@ -77,7 +77,7 @@ words-but-last heap store s ps there =
 abbrev pub visited_lines : HeapParts → List ℕ → List Line
 visited_lines heap ps = map (λ p. Visited (word_in heap (p + 1))) ps
 
-lines-named : (heap : HeapParts) (store : Store) (s : PartsStandFor heap store) (ps : List ℕ) → AreAmong s.places ps → visited_lines heap ps ≡ map (λ b. Visited b) (map s.name ps)
+pub lines-named : (heap : HeapParts) (store : Store) (s : PartsStandFor heap store) (ps : List ℕ) → AreAmong s.places ps → visited_lines heap ps ≡ map (λ b. Visited b) (map s.name ps)
 lines-named heap store s ps there = map-same (λ p. Visited (word_in heap (p + 1))) (λ p. Visited (s.name p)) ps (λ p t. ap (λ (x : ℕ). Visited x) (sym (s.words.objects.named p (there p t))))
     ∙ sym (map-map (λ b. Visited b) s.name ps)
 
@@ -107,7 +107,7 @@ marks_on heap store c marking ps new chain few enough =
     reaches n increment l = grind (arith, nat_tests)
 
 -- what was visited by places twice, by births
-two-named : (name : ℕ → ℕ) (ps qs : List ℕ) → map name ps ++ map name qs ≡ map name (ps ++ qs)
+pub two-named : (name : ℕ → ℕ) (ps qs : List ℕ) → map name ps ++ map name qs ≡ map name (ps ++ qs)
 two-named name ps qs = sym (map-append name ps qs)
 
 -- The list ran empty, the roots were queued again, and it ran empty once more, all below the increment: marking ends.

@@ -5,6 +5,7 @@ use Rattle.object_model.specs.ObjectWords.{words_at}
 use Rattle.mark_steps.specs.Visits.{CanVisit}
 use Rattle.mark_steps.specs.Ends.{EndsBy}
 use Rattle.mark_steps.specs.declared.MarkEnd.{MarkEnd}
+use Rattle.mark_steps.specs.declared.MarkEnd.TheVariants.{Budget, Empty}
 use Rattle.heap_parts.specs.Places.{is_young, AreAmong}
 use Rattle.heap_parts.specs.Parts.{HeapParts, word_in}
 use Rattle.heap_phases.specs.Visiting.{old_roots, with_gray, PlaceVisits}
@@ -61,3 +62,8 @@ VisitsWithin old new births true = VisitsOnce old new births
     ⊎ ((v : VisitsTwice old new births) × (old.setup.settings.increment ≤ words_of_places old (v.first ++ v.second)))
 VisitsWithin old new births false = (v : VisitsTwice old new births) × (new.gray ≡ [])
     × (words_of_places old (v.first ++ v.second) < old.setup.settings.increment)
+
+-- whether the words reached the budget
+abbrev pub is_budget : MarkEnd → Bool
+is_budget Budget = true
+is_budget (Empty words) = false

@@ -1,7 +1,7 @@
 //! Visits within the increment.
 ghost use Rattle.std.specs.Prelude.{◌≡◌, ◌<◌, [], IfOk};
 ghost use Rattle.text_model.specs.declared.line.Phase.TheVariants.{Marking};
-ghost use Rattle.heap_phases.specs.Budget.{CanMark, MarksPlaces, VisitsWithin};
+ghost use Rattle.heap_phases.specs.Budget.{CanMark, MarksPlaces, VisitsWithin, is_budget};
 ghost use Rattle.heap_phases.specs.Steps.{CanStep};
 
 use crate::roots::queue_roots;
@@ -28,7 +28,17 @@ pub(crate) fn visit(
     };
     queue_roots(parts, places)?;
     let end = mark(parts, increment - words, visited)?;
-    Ok(end == MarkEnd::Budget)
+    Ok(has_reached(end))
+}
+
+/// Whether the words of what was visited reached the budget.
+fn has_reached(end: MarkEnd) -> bool
+    ensures { result ≡ is_budget end }
+{
+    match end {
+        MarkEnd::Budget => true,
+        MarkEnd::Empty { .. } => false,
+    }
 }
 
 /// Visits gray objects within a budget of words, and appends their births.
