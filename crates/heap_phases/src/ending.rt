@@ -1,11 +1,11 @@
 //! The end of marking: what was not visited is condemned.
 
-use crate::dead::{append_places, list_dead, list_destroyed, list_husks, words_of};
+use crate::dead::{list_dead, list_destroyed, list_husks, list_places, words_of};
 use crate::telling::{tell_cleared, tell_destroyed, tell_ends};
 use crate::{Phases, StepEnd};
 use heap_parts::Parts;
 use std::alloc::AllocError;
-use text_model::{Line, Phase};
+use text_model::{Line, LinkEnd, Phase};
 
 impl Phases {
     /// Marking ends. Weak objects lose the targets that were not visited. What else was not visited is condemned: it
@@ -15,48 +15,51 @@ impl Phases {
         parts: &mut Parts,
         events: &mut Vec<Line>,
     ) -> Result<StepEnd, AllocError> {
-        self.clear_targets(parts, events)?;
-        list_dead(&parts.old_blocks, &parts.space, &mut self.blocks)?;
-        self.tell_dead(parts, events)?;
-        self.drop_dead(parts, events)?;
-        list_husks(&parts.space, &self.blocks, &mut parts.husks)?;
-        parts.old_blocks.begin_sweep(&mut parts.space);
-        parts.phase = Phase::Sweeping;
+        clear_targets(parts, &mut self.births, events)?;
+        list_dead(&parts.old_blocks, &parts.space, &mut self.live, &mut self.dead)?;
+        list_destroyed(&parts.space, &parts.types, &self.dead, &mut self.births)?;
+        tell_destroyed(events, &self.births)?;
+        list_places(&self.dead, &mut self.places)?;
+        drop_dead(parts, &self.places, &mut self.ends, events)?;
+        become_husks(parts, &self.dead)?;
         Ok(StepEnd {
-            husk_words: words_of(&self.blocks),
+            husk_words: words_of(&self.dead),
             freed_words: 0,
         })
     }
+}
 
-    /// Clears the targets that were not visited, and tells which weak objects lost theirs.
-    fn clear_targets(
-        &mut self,
-        parts: &mut Parts,
-        events: &mut Vec<Line>,
-    ) -> Result<(), AllocError> {
-        self.births.clear();
-        parts.weaks.after_marking(
-            &mut parts.space,
-            &parts.types,
-            &parts.nursery,
-            &mut self.births,
-        )?;
-        tell_cleared(events, &self.births)
-    }
+/// Clears the targets that were not visited, and tells which weak objects lost theirs.
+fn clear_targets(
+    parts: &mut Parts,
+    births: &mut Vec<u64>,
+    events: &mut Vec<Line>,
+) -> Result<(), AllocError> {
+    births.clear();
+    parts
+        .weaks
+        .after_marking(&mut parts.space, &parts.types, &parts.nursery, births)?;
+    tell_cleared(events, births)
+}
 
-    /// Tells the condemned objects whose type has a destructor.
-    fn tell_dead(&mut self, parts: &Parts, events: &mut Vec<Line>) -> Result<(), AllocError> {
-        list_destroyed(&parts.space, &parts.types, &self.blocks, &mut self.births)?;
-        tell_destroyed(events, &self.births)
-    }
+/// Takes the condemned objects off the lists of weak and remembered objects, cuts their links, and tells how.
+fn drop_dead(
+    parts: &mut Parts,
+    dead: &[u64],
+    ends: &mut Vec<LinkEnd>,
+    events: &mut Vec<Line>,
+) -> Result<(), AllocError> {
+    parts.weaks.drop_dead(dead);
+    parts.remember.drop_dead(dead);
+    ends.clear();
+    parts.links.cut_dead(dead, ends)?;
+    tell_ends(events, ends)
+}
 
-    /// Takes the condemned objects off the lists of weak and remembered objects, cuts their links, and tells how.
-    fn drop_dead(&mut self, parts: &mut Parts, events: &mut Vec<Line>) -> Result<(), AllocError> {
-        append_places(&self.blocks, &mut self.places)?;
-        parts.weaks.drop_dead(&self.places);
-        parts.remember.drop_dead(&self.places);
-        self.ends.clear();
-        parts.links.cut_dead(&self.places, &mut self.ends)?;
-        tell_ends(events, &self.ends)
-    }
+/// The blocks of condemned objects are those of husks from then on, and all units wait to be swept.
+fn become_husks(parts: &mut Parts, dead: &[(u64, u64)]) -> Result<(), AllocError> {
+    list_husks(&parts.space, &parts.types, dead, &mut parts.husks)?;
+    parts.old_blocks.begin_sweep(&mut parts.space);
+    parts.phase = Phase::Sweeping;
+    Ok(())
 }
