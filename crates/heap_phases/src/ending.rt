@@ -1,5 +1,11 @@
 //! The end of marking: what was not visited is condemned.
 
+ghost use Rattle.std.specs.Prelude.{◌≡◌, ◌++◌, OnOk, IsSorted};
+ghost use Rattle.std.specs.List.Sorted.{IsNonDecreasing};
+ghost use Rattle.std.specs.Ordering.{nat_cmp};
+ghost use Rattle.old_space.specs.Calls.{NoneWaits};
+ghost use Rattle.heap_phases.specs.Ending.{CanEnd, ClearsWeaks, BecomesHusks, HoldObjects, without_places, cut_lines};
+
 use crate::dead::{list_dead, list_destroyed, list_husks, list_places, words_of};
 use crate::telling::{tell_cleared, tell_destroyed, tell_ends};
 use crate::{Phases, StepEnd};
@@ -34,12 +40,16 @@ fn clear_targets(
     parts: &mut Parts,
     births: &mut Vec<u64>,
     events: &mut Vec<Line>,
-) -> Result<(), AllocError> {
+) -> Result<(), AllocError>
+    requires { CanEnd parts.old }
+    ensures { OnOk result (ClearsWeaks parts.old parts.new events.old.items events.new.items) }
+{
     births.clear();
     parts
         .weaks
         .after_marking(&mut parts.space, &parts.types, &parts.nursery, births)?;
-    tell_cleared(events, births)
+    tell_cleared(events, births)?;
+    Ok(())
 }
 
 /// Takes the condemned objects off the lists of weak and remembered objects, cuts their links, and tells how.
@@ -48,16 +58,26 @@ fn drop_dead(
     dead: &[u64],
     ends: &mut Vec<LinkEnd>,
     events: &mut Vec<Line>,
-) -> Result<(), AllocError> {
+) -> Result<(), AllocError>
+    requires sorted { IsSorted nat_cmp dead.now }
+    requires rising { IsNonDecreasing dead.now }
+    ensures dropped { OnOk result (parts.new ≡ without_places parts.old dead.now) }
+    ensures lines { OnOk result (events.new.items ≡ events.old.items ++ cut_lines parts.old dead.now) }
+{
     parts.weaks.drop_dead(dead);
     parts.remember.drop_dead(dead);
     ends.clear();
     parts.links.cut_dead(dead, ends)?;
-    tell_ends(events, ends)
+    tell_ends(events, ends)?;
+    Ok(())
 }
 
 /// The blocks of condemned objects are those of husks from then on, and all units wait to be swept.
-fn become_husks(parts: &mut Parts, dead: &[(u64, u64)]) -> Result<(), AllocError> {
+fn become_husks(parts: &mut Parts, dead: &[(u64, u64)]) -> Result<(), AllocError>
+    requires objects { HoldObjects parts.old.memory parts.old.setup.types dead.now }
+    requires none { NoneWaits parts.old.old_blocks parts.old.memory }
+    ensures { OnOk result (BecomesHusks parts.old parts.new dead.now) }
+{
     list_husks(&parts.space, &parts.types, dead, &mut parts.husks)?;
     parts.old_blocks.begin_sweep(&mut parts.space);
     parts.phase = Phase::Sweeping;
