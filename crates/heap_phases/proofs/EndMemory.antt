@@ -8,8 +8,12 @@ use Rattle.type_table.specs.Table.{Table}
 use Rattle.heap_space.specs.Places.{word_at}
 use Rattle.heap_space.specs.Memory.{Memory}
 use Rattle.heap_space.specs.Extents.{Extent, Each, IsUntouched, IsOutside, extents_between, begins_between, extent_of}
-use Rattle.object_header.specs.Words.{has_flag, with_flag}
-use Rattle.object_header.specs.declared.flags.Flag.TheVariants.{Visited}
+use Rattle.object_header.specs.Words.{IsHeader, has_flag, with_flag}
+use Rattle.heap_space.proofs.ExtentLaws.{Each-join}
+use Rattle.size_pages.specs.Headers.{IsHeaded}
+use Rattle.old_space.specs.Headers.{HasHeaders}
+use Rattle.heap_phases.proofs.SweepWords.{each-of-places, each-of-homes}
+use Rattle.object_header.specs.declared.flags.Flag.TheVariants.{Visited, Free}
 use Rattle.object_model.specs.Sets.{is_in}
 use Rattle.object_model.specs.Holds.{IsPointer}
 use Rattle.object_model.specs.ObjectWords.{updated, words_at, layout_at, Covers}
@@ -158,3 +162,14 @@ module _ (heap : HeapParts) (store : Store) (s : PartsStandFor heap store) (pinn
 
     pub below_stays : extents_between 0 4294967296 m ≡ extents_between 0 4294967296 heap.memory
     below_stays = ap (filter (begins_between 0 4294967296)) changes.extents
+
+    -- and their first words are headers
+    pub heads_stay : HasHeaders heap.old_blocks m (marking_blocks heap store s) []
+    heads_stay = record {
+      blocks = blocks_stay;
+      headed = Each-join (IsHeaded m) (map (block_at types w) (old_places s.places)) _
+          (each-of-places (IsHeaded m) (block_at types w) (old_places s.places) (λ p t. let k = (s.headers.settled.each p t).live in
+              record { header = subst IsHeader (sym (first_stays p (old-is_in s.places p t).0)) k.header; live = ap (λ (x : ℕ). has_flag x Free) (first_stays p (old-is_in s.places p t).0) ∙ k.not_free }))
+          (each-of-homes (IsHeaded m) types w (home_in heap) (young_places s.places) (λ a n t. let k = (s.headers.shadow.each a t).live in
+              record { header = subst IsHeader (sym (shadow_stays a t)) k.header; live = ap (λ (x : ℕ). has_flag x Free) (shadow_stays a t) ∙ k.not_free }));
+    }

@@ -1,10 +1,11 @@
 //! The end of marking: what was not visited is condemned.
 
-ghost use Rattle.std.specs.Prelude.{◌≡◌, ◌++◌, OnOk, IsSorted};
+ghost use Rattle.std.specs.Prelude.{◌≡◌, ◌++◌, OnOk, IfOk, IsSorted};
 ghost use Rattle.std.specs.List.Sorted.{IsNonDecreasing};
 ghost use Rattle.std.specs.Ordering.{nat_cmp};
 ghost use Rattle.old_space.specs.Calls.{NoneWaits};
-ghost use Rattle.heap_phases.specs.Ending.{CanEnd, ClearsWeaks, BecomesHusks, HoldObjects, without_places, cut_lines};
+ghost use Rattle.heap_phases.specs.Ending.{CanEnd, EndsMajor, ClearsWeaks, BecomesHusks, HoldObjects, without_places, cut_lines};
+ghost use Rattle.heap_phases.specs.Steps.{CountsHusks};
 
 use crate::dead::{list_dead, list_destroyed, list_husks, list_places, words_of};
 use crate::telling::{tell_cleared, tell_destroyed, tell_ends};
@@ -20,7 +21,11 @@ impl Phases {
         &mut self,
         parts: &mut Parts,
         events: &mut Vec<Line>,
-    ) -> Result<StepEnd, AllocError> {
+    ) -> Result<StepEnd, AllocError>
+        requires { CanEnd parts.old }
+        ensures ends { OnOk result (EndsMajor parts.old parts.new events.old.items events.new.items) }
+        ensures counts { IfOk result (λ end. CountsHusks parts.old parts.new end) }
+    {
         clear_targets(parts, &mut self.births, events)?;
         list_dead(&parts.old_blocks, &parts.space, &mut self.live, &mut self.dead)?;
         list_destroyed(&parts.space, &parts.types, &self.dead, &mut self.births)?;

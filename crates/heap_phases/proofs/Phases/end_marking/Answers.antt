@@ -1,5 +1,6 @@
-use Rattle.heap_phases.proofs.EndMemory.{below_stays}
+use Rattle.heap_phases.proofs.EndMajor.{ends_major}
+use Rattle.heap_phases.proofs.EndCan.{may_list}
 use Rattle.heap_phases.proofs.Phases.end_marking.Goals as goal
 
-pub clear_targets-requires : goal.clear_targets-requires
-clear_targets-requires c = ?
+pub returns-clause-ends : goal.returns-clause-ends
+returns-clause-ends c = ?
