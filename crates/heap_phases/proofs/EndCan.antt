@@ -16,6 +16,8 @@ use Rattle.old_space.specs.Calls.{NoneWaits}
 use Rattle.old_space.specs.Headers.{HasHeaders, StandsWithHeaders}
 use Rattle.old_space.specs.declared.Old.{Old}
 use Rattle.text_model.specs.declared.line.Line.{Line}
+use Rattle.text_model.specs.declared.line.Line.TheVariants.{Destroyed}
+use Rattle.size_pages.specs.Headers.{RiseByPlace}
 use Rattle.text_model.specs.declared.line.Phase.{Phase}
 use Rattle.text_model.specs.declared.line.Phase.TheVariants.{Marking}
 use Rattle.store_model.specs.Store.{Store, husk_words}
@@ -28,12 +30,12 @@ use Rattle.heap_parts.specs.OldSpace.{husk_at}
 use Rattle.heap_parts.proofs.PlaceLaws.{placed_words}
 use Rattle.heap_phases.specs.declared.StepEnd.{StepEnd}
 use Rattle.heap_phases.specs.Steps.{CountsHusks}
-use Rattle.heap_phases.specs.Ending.{CanEnd, ClearsWeaks, AreDead, AreHusks, HoldObjects, with_memory, without_places, places_in}
+use Rattle.heap_phases.specs.Ending.{CanEnd, EndsMajor, ClearsWeaks, AreDead, AreDestroyed, AreHusks, BecomesHusks, HoldObjects, without_places, places_in, cut_lines}
 use Rattle.heap_phases.proofs.DeadCalls.{each_permuted}
 use Rattle.heap_phases.proofs.DeadPlaces.{dead_blocks, lost_part, dead_words, husks_are, young_stay}
 use Rattle.heap_phases.proofs.EndCalls.{marking_blocks}
 use Rattle.heap_phases.proofs.EndCode.{ClearsWords, clears, clears_targets}
-use Rattle.heap_phases.proofs.EndMajor.{none_saved}
+use Rattle.heap_phases.proofs.EndMajor.{none_saved, ends_major}
 use Rattle.heap_phases.proofs.EndMemory.{heads_stay, first_stays, words_end}
 use Rattle.heap_phases.proofs.EndStands.{sum_map, sum_split}
 use Rattle.heap_phases.proofs.EndWords.{losing, losing_old}
@@ -43,7 +45,7 @@ module _ (heap : HeapParts) (can : CanEnd heap) (one : HeapParts) (before after 
   pub same_old : one.old_blocks ≡ heap.old_blocks
   same_old = ap (λ (h : HeapParts). h.old_blocks) c.rest
 
-  headers : HasHeaders heap.old_blocks one.memory (marking_blocks heap can.store can.stands) []
+  pub headers : HasHeaders heap.old_blocks one.memory (marking_blocks heap can.store can.stands) []
   headers = heads_stay heap can.store can.stands can.pinned can.marked can.marking one.memory c.targets
 
   pub may_list : StandsWithHeaders one.old_blocks one.memory
@@ -114,3 +116,55 @@ module _ (heap : HeapParts) (can : CanEnd heap) (one : HeapParts) (before after 
         ap husk_words (husks_are heap can.store s can.pinned can.marked can.marking one.memory c.targets saved no-saved dead (listed _ headers) three.husk_list husks)
         ∙ sum_map (λ k. k) heap.setup.types (word_in heap) lost in
         record { husks = omega (arith, before, after, words-lost); old_words = omega (arith, same) }
+
+-- What is known in the middle of the end of marking: targets were cleared, and the dead are listed.
+pub record Listed (heap one : HeapParts) (before after : List Line) (dead : List Extent) : Type 0 where
+  pub can : CanEnd heap
+  pub clears : ClearsWeaks heap one before after
+  pub none : heap.registered ≡ []
+  pub dead_are : (live : List Extent) → HasHeaders heap.old_blocks one.memory live [] → AreDead one.memory live dead
+
+-- where no object is registered in what the code has
+pub is_listed : (heap one now : HeapParts) (before after : List Line) (dead : List Extent) → CanEnd heap → ClearsWeaks heap now before after → one ≡ now → one.registered ≡ []
+    → ((live : List Extent) (waiting : List ℕ) → HasHeaders one.old_blocks one.memory live waiting → AreDead one.memory live dead) → Listed heap one before after dead
+is_listed heap one now before after dead can c e none dead_are =
+    let c1 : ClearsWeaks heap one before after = subst (λ (h : HeapParts). ClearsWeaks heap h before after) (sym e) c in
+    record {
+      can = can;
+      clears = c1;
+      none = sym (ap (λ (h : HeapParts). h.registered) c1.rest) ∙ none;
+      dead_are = λ live has. dead_are live [] (subst (λ (o : Old). HasHeaders o one.memory live []) (sym (same_old heap can one before after c1)) has);
+    }
+
+module _ (heap one : HeapParts) (before after : List Line) (dead : List Extent) (l : Listed heap one before after dead) where
+  types-stay : one.setup.types ≡ heap.setup.types
+  types-stay = ap (λ (h : HeapParts). h.setup.types) l.clears.rest
+
+  pub listed_objects : HoldObjects one.memory one.setup.types dead
+  listed_objects = subst (λ (types : Table TypeInfo). HoldObjects one.memory types dead) (sym types-stay) (dead_objects heap l.can one before after l.clears l.none dead l.dead_are)
+
+  pub listed_rise : RiseByPlace dead
+  listed_rise = (l.dead_are _ (headers heap l.can one before after l.clears)).rising
+
+  pub listed_few : sum_by (λ (x : Extent). x.1) dead < 2 ^ 64
+  listed_few = words_few heap l.can one before after l.clears l.none dead l.dead_are
+
+  module _ (two : HeapParts) (dropped : two ≡ without_places one (places_in dead)) where
+    pub dropped_objects : HoldObjects two.memory two.setup.types dead
+    dropped_objects = subst (λ (h : HeapParts). HoldObjects h.memory h.setup.types dead) (sym dropped) listed_objects
+
+    pub dropped_waits : NoneWaits two.old_blocks two.memory
+    dropped_waits = subst (λ (h : HeapParts). NoneWaits h.old_blocks h.memory) (sym dropped) (none_waits heap l.can one before after l.clears)
+
+    module _ (three : HeapParts) (becomes : BecomesHusks two three dead) where
+      pub becomes_counted : (words : ℕ) → words ≡ sum_by (λ (x : Extent). x.1) dead → CountsHusks heap three (record { husk_words = words; freed_words = 0 })
+      becomes_counted words e = subst (λ (n : ℕ). CountsHusks heap three (record { husk_words = n; freed_words = 0 })) (sym e)
+          (ends_counted heap l.can one before after l.clears l.none dead l.dead_are three
+          (subst (λ (k : Memory). AreHusks k dead three.husk_list) (ap (λ (h : HeapParts). h.memory) dropped) becomes.husks)
+          (ap (λ (h : HeapParts). h.old_words) becomes.rest ∙ (ap (λ (h : HeapParts). h.old_words) dropped ∙ ap (λ (h : HeapParts). h.old_words) l.clears.rest)))
+
+      pub becomes_major : (told1 told2 : List Line) (births : List ℕ) → AreDestroyed one.setup.types one.memory dead births → told1 ≡ after ++ map (λ b. Destroyed b) births
+          → told2 ≡ told1 ++ cut_lines one (places_in dead) → EndsMajor heap three before told2
+      becomes_major told1 told2 births destroyed e f =
+          ends_major heap l.none l.can.marking l.can.gray one two three dead before after told1 told2 births l.clears l.dead_are
+          (subst (λ (types : Table TypeInfo). AreDestroyed types one.memory dead births) types-stay destroyed) e dropped f becomes
