@@ -21,31 +21,6 @@ passed {X = X} test xs i x d old now l e was out =
     was ∙ ap (λ (ys : List X). old ++ ys) (sym (filter_more test xs i d l ∙ (ap (λ (y : X). filter test (take i xs) ++ cond (test y) (y ∷ []) []) e
     ∙ (ap (λ (b : Bool). filter test (take i xs) ++ cond b (x ∷ []) []) out ∙ append-nil (filter test (take i xs))))))
 
--- and what is read of it is appended
-pub read_queued : {X Y : Type 0} (f : X → Y) (test : X → Bool) (xs : List X) (i : ℕ) (x d : X) (old now new : List Y) → i < length xs → get_or xs i d ≡ x
-    → now ≡ old ++ map f (filter test (take i xs)) → test x ≡ true → new ≡ now ++ f x ∷ [] → new ≡ old ++ map f (filter test (take (i + 1) xs))
-read_queued {X = X} {Y = Y} f test xs i x d old now new l e was is more =
-    more ∙ (ap (λ (ys : List Y). ys ++ f x ∷ []) was ∙ (append_assoc old (map f (filter test (take i xs))) (f x ∷ [])
-    ∙ ap (λ (ys : List Y). old ++ ys) (sym (ap (map f) (queued test xs i x d [] (filter test (take i xs)) (filter test (take i xs) ++ x ∷ []) l e refl is refl)) ∙ map-append f (filter test (take i xs)) (x ∷ []))))
-
-pub read_passed : {X Y : Type 0} (f : X → Y) (test : X → Bool) (xs : List X) (i : ℕ) (x d : X) (old now : List Y) → i < length xs → get_or xs i d ≡ x
-    → now ≡ old ++ map f (filter test (take i xs)) → test x ≡ false → now ≡ old ++ map f (filter test (take (i + 1) xs))
-read_passed {X = X} {Y = Y} f test xs i x d old now l e was out =
-    was ∙ ap (λ (zs : List X). old ++ map f zs) (passed test xs i x d [] (filter test (take i xs)) l e refl out)
-
--- what is read of each is appended
-pub read_each : {X Y : Type 0} (f : X → Y) (xs : List X) (i : ℕ) (x d : X) (old now new : List Y) → i < length xs → get_or xs i d ≡ x
-    → now ≡ old ++ map f (take i xs) → new ≡ now ++ f x ∷ [] → new ≡ old ++ map f (take (i + 1) xs)
-read_each {X = X} {Y = Y} f xs i x d old now new l e was more =
-    more ∙ (ap (λ (ys : List Y). ys ++ f x ∷ []) was ∙ (append_assoc old (map f (take i xs)) (f x ∷ [])
-    ∙ ap (λ (ys : List Y). old ++ ys) (sym (ap (map f) (take_more xs i d l ∙ ap (λ (y : X). take i xs ++ y ∷ []) e) ∙ map-append f (take i xs) (x ∷ [])))))
-
--- what holds of each holds of the one at a place
-pub each_at : (P : Extent → Type 0) (xs : List Extent) (i : ℕ) (d : Extent) → Each P xs → i < length xs → P (get_or xs i d)
-each_at P [] i d all l = absurd (let no : ⊥ = omega (arith, l) in no)
-each_at P (x ∷ xs) zero d all l = all.0
-each_at P (x ∷ xs) (suc i) d all l = each_at P xs i d all.1 (omega (arith, l))
-
 pub is_old : (x : ℕ) → 4294967296 ≤ x → not (is_young x) ≡ true
 is_old x l = grind (arith, nat_tests)
 
