@@ -1,6 +1,6 @@
 -- The blocks outside the nursery begin with headers.
-use Rattle.std.proofs.Common.{ℕ, map, List, []}
-use Rattle.heap_space.specs.Extents.{Extent, Each}
+use Rattle.std.proofs.Common.{map, List, []}
+use Rattle.heap_space.specs.Extents.{Extent}
 use Rattle.heap_space.proofs.ExtentLaws.{Each-join}
 use Rattle.size_pages.specs.Headers.{IsHeaded}
 use Rattle.old_space.specs.Headers.{HasHeaders}

@@ -1,21 +1,19 @@
 -- Targets are cleared, as the code does it: what it asks for.
-use Rattle.std.proofs.Common.{◌≡◌, ◌≢◌, ℕ, ◌+◌, ◌≤◌, ◌<◌, Bool, true, false, IsTrue, List, [], ◌∷◌, ◌++◌, map, refl, sym, ap, ◌∙◌, subst, inl, inr, arith}
-use Rattle.std.specs.Prelude.{not, filter, ◌==◌, ◌&&◌, nat_lt}
-use Rattle.std.specs.List.Sorted.{IsPermutation}
-use Rattle.std.proofs.lemmas.Bool.{cases_Bool}
-use Rattle.std.proofs.lemmas.Bool.Decides.{nat_tests, eqb_tells}
+use Rattle.std.proofs.Common.{◌≡◌, ℕ, true, IsTrue, refl, sym, subst, inl, inr, arith}
+use Rattle.std.specs.Prelude.{filter, ◌==◌, nat_lt}
+use Rattle.std.proofs.lemmas.Bool.Decides.{nat_tests}
 use Rattle.std.proofs.lemmas.List.Sorted.{list_any-IsPermutation}
 use Rattle.type_table.specs.declared.info.Shape.{Shape}
 use Rattle.type_table.specs.declared.info.Shape.TheVariants.{Fixed, IntArray, RefArray, Weak}
 use Rattle.object_model.specs.Sets.{is_in}
 use Rattle.object_model.specs.Shapes.{is_weak_shape}
 use Rattle.object_model.specs.Holds.{IsPointer}
-use Rattle.object_model.specs.ObjectWords.{info_at, layout_at}
-use Rattle.object_model.proofs.Members.{filter-part, filter-member, not-true}
-use Rattle.object_view.proofs.LayoutLaws.{laid_out, weak-at}
+use Rattle.object_model.specs.ObjectWords.{info_at}
+use Rattle.object_model.proofs.Members.{filter-part, filter-member}
+use Rattle.object_view.proofs.LayoutLaws.{weak-at}
 use Rattle.store_model.specs.Store.{Store}
 use Rattle.weak_lists.specs.Conditions.{CanClear}
-use Rattle.weak_lists.specs.Targets.{is_outside, target_at}
+use Rattle.weak_lists.specs.Targets.{target_at}
 use Rattle.heap_parts.specs.Parts.{HeapParts, word_in}
 use Rattle.heap_parts.specs.Places.{is_weak_at}
 use Rattle.heap_parts.specs.StandsFor.{PartsStandFor}

@@ -1,5 +1,5 @@
 -- What the code lists as dead is what is condemned, where nothing is saved for finalizers.
-use Rattle.std.proofs.Common.{◌≡◌, ◌≢◌, ℕ, ◌+◌, ◌≤◌, ◌<◌, Bool, true, false, IsTrue, List, [], ◌∷◌, ◌++◌, map, append-nil, refl, sym, ap, ap₂, ◌∙◌, subst, inl, inr, arith}
+use Rattle.std.proofs.Common.{◌≡◌, ℕ, ◌+◌, Bool, true, false, IsTrue, List, [], ◌∷◌, ◌++◌, map, append-nil, refl, sym, ap, ap₂, ◌∙◌, subst, inl, inr, arith}
 use Rattle.std.specs.Prelude.{not, filter, ◌==◌, ◌&&◌, ◌%◌, if◌then◌else◌, sum_by}
 use Rattle.std.specs.List.Sorted.{IsPermutation}
 use Rattle.std.proofs.lemmas.Bool.{cases_Bool, ne_eqb}
@@ -12,13 +12,13 @@ use Rattle.type_table.specs.declared.info.TypeInfo.{TypeInfo}
 use Rattle.type_table.specs.Table.{Table}
 use Rattle.heap_space.specs.Places.{word_at}
 use Rattle.heap_space.specs.Memory.{Memory}
-use Rattle.heap_space.specs.Extents.{Extent, Each}
+use Rattle.heap_space.specs.Extents.{Extent}
 use Rattle.object_header.specs.Words.{has_flag}
 use Rattle.object_header.specs.declared.flags.Flag.TheVariants.{Visited, Shadow}
 use Rattle.size_pages.specs.Sweeping.{is_dead}
 use Rattle.object_model.specs.Sets.{is_in}
 use Rattle.object_model.specs.ObjectWords.{words_at, info_at, layout_at}
-use Rattle.object_model.proofs.Members.{map-same, filter-part, filter-member, filter-agree, false-in}
+use Rattle.object_model.proofs.Members.{map-same, filter-part, filter-member, false-in}
 use Rattle.object_view.proofs.LayoutLaws.{laid_out, info_at-same}
 use Rattle.old_space.proofs.SweepLaws.{filter-none}
 use Rattle.text_model.specs.declared.line.Phase.TheVariants.{Marking}
@@ -26,7 +26,7 @@ use Rattle.store_model.specs.Store.{Store}
 use Rattle.store_model.specs.Marking.{IsMarked, is_white, is_condemned}
 use Rattle.weak_lists.specs.Targets.{ChangesTargets, kept_target}
 use Rattle.heap_parts.specs.Parts.{HeapParts, word_in, home_in}
-use Rattle.heap_parts.specs.Places.{is_young, young_places, old_places, block_at, RiseBetween}
+use Rattle.heap_parts.specs.Places.{young_places, old_places, block_at, RiseBetween}
 use Rattle.heap_parts.specs.OldSpace.{reserved_blocks, husk_at}
 use Rattle.heap_parts.specs.StandsFor.{PartsStandFor}
 use Rattle.heap_parts.specs.Collects.{AreAllPinned}

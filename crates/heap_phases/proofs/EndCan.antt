@@ -1,17 +1,16 @@
 -- What the calls at the end of marking ask for, and the words of the new husks.
-use Rattle.std.proofs.Common.{◌≡◌, ℕ, ◌+◌, ◌≤◌, ◌<◌, ◌^◌, Bool, true, false, IsTrue, List, [], ◌∷◌, ◌++◌, map, refl, sym, ap, ap₂, ◌∙◌, subst, arith}
-use Rattle.std.specs.Prelude.{IsSome, sum_by, filter, not, ◌%◌}
+use Rattle.std.proofs.Common.{◌≡◌, ℕ, ◌<◌, ◌^◌, Bool, false, IsTrue, List, [], ◌++◌, map, sym, ap, ◌∙◌, subst, arith}
+use Rattle.std.specs.Prelude.{IsSome, sum_by, ◌%◌}
 use Rattle.type_table.specs.declared.info.TypeInfo.{TypeInfo}
 use Rattle.type_table.specs.Table.{Table, value_at}
 use Rattle.heap_space.specs.Places.{word_at, lies_in_one}
 use Rattle.heap_space.specs.Memory.{Memory}
-use Rattle.heap_space.specs.Extents.{Extent, Each, lies_within, extent_of}
+use Rattle.heap_space.specs.Extents.{Extent, lies_within}
 use Rattle.heap_space.proofs.ExtentLaws.{lies_in_one-extents}
 use Rattle.object_model.specs.Layout.{Layout}
 use Rattle.object_model.specs.Sets.{is_in}
-use Rattle.object_model.specs.ObjectWords.{words_at, type_id_at}
+use Rattle.object_model.specs.ObjectWords.{words_at}
 use Rattle.object_view.specs.Views.{HasObject}
-use Rattle.object_view.proofs.LayoutLaws.{KeepsLayout}
 use Rattle.old_space.specs.Calls.{NoneWaits}
 use Rattle.old_space.specs.Headers.{HasHeaders, StandsWithHeaders}
 use Rattle.old_space.specs.declared.Old.{Old}
@@ -20,15 +19,13 @@ use Rattle.text_model.specs.declared.line.Line.TheVariants.{Destroyed}
 use Rattle.size_pages.specs.Headers.{RiseByPlace}
 use Rattle.text_model.specs.declared.line.Phase.{Phase}
 use Rattle.text_model.specs.declared.line.Phase.TheVariants.{Marking}
-use Rattle.store_model.specs.Store.{Store, husk_words}
+use Rattle.store_model.specs.Store.{husk_words}
 use Rattle.store_model.specs.Sound.{IsPhaseSound}
 use Rattle.store_model.specs.Marking.{is_white, is_condemned}
 use Rattle.store_model.proofs.TestsExist.{saved_test}
 use Rattle.heap_parts.specs.Parts.{HeapParts, word_in}
 use Rattle.heap_parts.specs.Places.{block_at, old_places}
-use Rattle.heap_parts.specs.OldSpace.{husk_at}
 use Rattle.heap_parts.proofs.PlaceLaws.{placed_words}
-use Rattle.heap_phases.specs.declared.StepEnd.{StepEnd}
 use Rattle.heap_phases.specs.Steps.{CountsHusks}
 use Rattle.heap_phases.specs.Ending.{CanEnd, EndsMajor, ClearsWeaks, AreDead, AreDestroyed, AreHusks, BecomesHusks, HoldObjects, without_places, places_in, cut_lines}
 use Rattle.heap_phases.proofs.DeadCalls.{each_permuted}

@@ -1,5 +1,5 @@
 -- The memory once targets were cleared: only targets of weak objects that lead to what was not visited change, to nil.
-use Rattle.std.proofs.Common.{◌≡◌, ◌≢◌, ℕ, ◌+◌, ◌≤◌, ◌<◌, ◌⊎◌, Bool, true, false, IsTrue, List, [], ◌∷◌, ◌++◌, map, refl, sym, ap, ap₂, ◌∙◌, subst, inl, inr, arith}
+use Rattle.std.proofs.Common.{◌≡◌, ◌≢◌, ℕ, ◌+◌, ◌≤◌, ◌<◌, ◌⊎◌, Bool, true, false, IsTrue, [], map, refl, sym, ap, ap₂, ◌∙◌, subst, inl, inr, arith}
 use Rattle.std.specs.Prelude.{not, filter, ◌==◌, ◌&&◌, nat_lt, if◌then◌else◌}
 use Rattle.std.proofs.lemmas.Bool.{cases_Bool, ne_eqb}
 use Rattle.std.proofs.lemmas.Bool.Decides.{nat_tests, eqb_tells}
@@ -7,16 +7,16 @@ use Rattle.type_table.specs.declared.info.TypeInfo.{TypeInfo}
 use Rattle.type_table.specs.Table.{Table}
 use Rattle.heap_space.specs.Places.{word_at}
 use Rattle.heap_space.specs.Memory.{Memory}
-use Rattle.heap_space.specs.Extents.{Extent, Each, IsUntouched, IsOutside, extents_between, begins_between, extent_of}
-use Rattle.object_header.specs.Words.{IsHeader, has_flag, with_flag}
+use Rattle.heap_space.specs.Extents.{IsOutside, extents_between, begins_between}
+use Rattle.object_header.specs.Words.{IsHeader, has_flag}
 use Rattle.heap_space.proofs.ExtentLaws.{Each-join}
 use Rattle.size_pages.specs.Headers.{IsHeaded}
 use Rattle.old_space.specs.Headers.{HasHeaders}
 use Rattle.heap_phases.proofs.SweepWords.{each-of-places, each-of-homes}
-use Rattle.object_header.specs.declared.flags.Flag.TheVariants.{Visited, Free}
+use Rattle.object_header.specs.declared.flags.Flag.TheVariants.{Free}
 use Rattle.object_model.specs.Sets.{is_in}
 use Rattle.object_model.specs.Holds.{IsPointer}
-use Rattle.object_model.specs.ObjectWords.{updated, words_at, layout_at, Covers}
+use Rattle.object_model.specs.ObjectWords.{updated, words_at, layout_at}
 use Rattle.object_view.proofs.WordLaws.{updated-here}
 use Rattle.object_view.proofs.LayoutLaws.{laid_out, weak-at}
 use Rattle.old_space.specs.HasBlocks.{HasBlocks}
@@ -27,13 +27,13 @@ use Rattle.store_model.specs.Marking.{IsMarked, is_white}
 use Rattle.weak_lists.specs.Targets.{ChangesTargets, is_outside, is_unvisited, kept_target, target_at}
 use Rattle.heap_parts.specs.Parts.{HeapParts, word_in, home_in}
 use Rattle.heap_parts.specs.Places.{is_young, young_places, old_places, block_at, is_weak_at}
-use Rattle.heap_parts.specs.OldSpace.{blocks_of, reserved_homes}
+use Rattle.heap_parts.specs.OldSpace.{reserved_homes}
 use Rattle.heap_parts.specs.StandsFor.{PartsStandFor}
 use Rattle.heap_parts.specs.Collects.{AreAllPinned}
 use Rattle.heap_parts.proofs.Members.{each-left}
 use Rattle.heap_parts.proofs.BlockLaws.{each-member}
 use Rattle.heap_parts.proofs.MinorNeeds.{settled_place}
-use Rattle.heap_parts.proofs.PlaceLaws.{young-is_in, old-is_in, is_in-young, is_in-old}
+use Rattle.heap_parts.proofs.PlaceLaws.{old-is_in, is_in-young, is_in-old}
 use Rattle.heap_parts.proofs.WriteWords.{shadow_first}
 use Rattle.heap_phases.proofs.ClearCalls.{weak_there, weak_listed, weak_at, target_pointer}
 use Rattle.heap_phases.proofs.EndCode.{clears}
@@ -169,7 +169,7 @@ module _ (heap : HeapParts) (store : Store) (s : PartsStandFor heap store) (pinn
       blocks = blocks_stay;
       headed = Each-join (IsHeaded m) (map (block_at types w) (old_places s.places)) _
           (each-of-places (IsHeaded m) (block_at types w) (old_places s.places) (λ p t. let k = (s.headers.settled.each p t).live in
-              record { header = subst IsHeader (sym (first_stays p (old-is_in s.places p t).0)) k.header; live = ap (λ (x : ℕ). has_flag x Free) (first_stays p (old-is_in s.places p t).0) ∙ k.not_free }))
+          record { header = subst IsHeader (sym (first_stays p (old-is_in s.places p t).0)) k.header; live = ap (λ (x : ℕ). has_flag x Free) (first_stays p (old-is_in s.places p t).0) ∙ k.not_free }))
           (each-of-homes (IsHeaded m) types w (home_in heap) (young_places s.places) (λ a n t. let k = (s.headers.shadow.each a t).live in
-              record { header = subst IsHeader (sym (shadow_stays a t)) k.header; live = ap (λ (x : ℕ). has_flag x Free) (shadow_stays a t) ∙ k.not_free }));
+          record { header = subst IsHeader (sym (shadow_stays a t)) k.header; live = ap (λ (x : ℕ). has_flag x Free) (shadow_stays a t) ∙ k.not_free }));
     }

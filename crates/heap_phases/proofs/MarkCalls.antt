@@ -1,6 +1,6 @@
 -- Visits as `mark` tells them are visits over places.
-use Rattle.std.proofs.Common.{◌≡◌, ℕ, ◌+◌, ◌≤◌, ◌<◌, Bool, true, false, IsTrue, List, [], ◌∷◌, ◌++◌, map, refl, sym, ap, ◌∙◌, subst, inl, inr, arith}
-use Rattle.std.specs.Prelude.{◌||◌, not, filter, nat_lt}
+use Rattle.std.proofs.Common.{◌≡◌, ℕ, ◌<◌, Bool, true, false, IsTrue, List, ◌∷◌, ◌++◌, refl, sym, ap, ◌∙◌, subst, inl, inr, arith}
+use Rattle.std.specs.Prelude.{◌||◌, not, nat_lt}
 use Rattle.std.proofs.lemmas.Bool.{cases_Bool}
 use Rattle.std.proofs.lemmas.Bool.Decides.{nat_tests}
 use Rattle.type_table.specs.declared.info.TypeInfo.{TypeInfo}
@@ -23,7 +23,7 @@ use Rattle.heap_parts.specs.Places.{is_young, old_places, AreAmong}
 use Rattle.heap_parts.specs.StandsFor.{PartsStandFor}
 use Rattle.heap_parts.proofs.PlaceLaws.{old-is_in, is_in-old, is_in-young}
 use Rattle.heap_phases.specs.Budget.{CanMark, MarksPlaces}
-use Rattle.heap_phases.specs.Visiting.{old_refs, with_gray, PlaceVisits, NoPlace, PassesPlace, VisitsPlace}
+use Rattle.heap_phases.specs.Visiting.{old_refs, PlaceVisits, NoPlace, PassesPlace, VisitsPlace}
 use Rattle.heap_phases.proofs.VisitRefs.{each-ref}
 
 -- the heap with this memory, and these places gray

@@ -1,10 +1,9 @@
 -- A whole step of marking, as the code does it.
-use Rattle.std.proofs.Common.{◌≡◌, ℕ, ◌+◌, ◌≤◌, ◌<◌, Bool, true, false, IsTrue, List, [], ◌∷◌, ◌++◌, map, length, append_assoc, refl, sym, ap, ap₂, ◌∙◌, subst, inl, inr, arith}
-use Rattle.std.specs.Prelude.{◌-◌, take, sum_by, nat_le}
+use Rattle.std.proofs.Common.{◌≡◌, ℕ, ◌+◌, ◌≤◌, ◌<◌, Bool, true, false, List, ◌∷◌, ◌++◌, map, append_assoc, refl, sym, ap, ◌∙◌, subst, inl, inr, arith}
+use Rattle.std.specs.Prelude.{nat_le}
 use Rattle.std.proofs.lemmas.Bool.Decides.{nat_tests}
 use Rattle.std.proofs.lemmas.Simd.{map-map}
 use Rattle.type_table.specs.Table.{Table}
-use Rattle.object_model.specs.Setup.{Setup}
 use Rattle.text_model.specs.declared.line.Line.{Line}
 use Rattle.text_model.specs.declared.line.Line.TheVariants.{Stepped, Visited}
 use Rattle.text_model.specs.declared.line.Phase.TheVariants.{Marking, Sweeping}
@@ -14,10 +13,10 @@ use Rattle.heap_parts.specs.Parts.{HeapParts, word_in}
 use Rattle.heap_parts.specs.Collects.{IsCollected, StepsMajor}
 use Rattle.heap_phases.specs.declared.StepEnd.{StepEnd}
 use Rattle.heap_phases.specs.Steps.{CanStep, CountsHusks}
-use Rattle.heap_phases.specs.Budget.{VisitsOnce, VisitsTwice, VisitsWithin, births_of, words_of_places}
+use Rattle.heap_phases.specs.Budget.{VisitsTwice, VisitsWithin, births_of, words_of_places}
 use Rattle.heap_phases.specs.Ending.{CanEnd, EndsMajor}
-use Rattle.heap_phases.specs.Visiting.{PlaceVisits, NoPlace, PassesPlace, VisitsPlace, with_gray, old_roots}
-use Rattle.heap_phases.proofs.MajorSteps.{EndsTo, in-phase}
+use Rattle.heap_phases.specs.Visiting.{PlaceVisits, NoPlace, PassesPlace, VisitsPlace}
+use Rattle.heap_phases.proofs.MajorSteps.{in-phase}
 use Rattle.heap_phases.proofs.MarkingSteps.{MarksAll, MarkedAll, marks_all, marks_last, visited_lines, words-visited, words-but-last, lines-named}
 use Rattle.heap_phases.proofs.MarksAgain.{both_at, both_there, both_setup, goes_on_again}
 use Rattle.heap_phases.proofs.StepContracts.{marks_on_major}
@@ -68,14 +67,15 @@ again_major heap new births before after marking can v enough told = record {
       let s = c.stands in let ps : List ℕ = v.first ++ v.second in
       let at = both_at heap store c marking v.first v.mid v.visits v.ran_empty v.second new v.again in
       let there = both_there heap store c marking v.first v.mid v.visits v.ran_empty v.second new v.again in
-      let words = words-visited heap store s ps there in let some = words-but-last heap store s ps there in
-      (with_visited store (map s.name ps),
-      in-phase Marking heap.setup.settings store (with_visited store (map s.name ps)) (Stepped Marking Marking ∷ visited_lines heap ps) (s.counts.phase_is ∙ marking)
-      (subst (λ (ls : List Line). MarkingStep heap.setup.settings store (Stepped Marking Marking ∷ ls) (with_visited store (map s.name ps))) (sym (lines-named heap store s ps there))
-      (goes_on_again heap store c marking v.first v.mid v.visits v.ran_empty v.second new v.again
-      (subst (λ (n : ℕ). n < heap.setup.settings.increment) (sym some) v.few)
-      (reaches (visited_words store.kept (map s.name ps)) heap.setup.settings.increment (subst (λ (n : ℕ). heap.setup.settings.increment ≤ n) (sym words) enough)))),
-      at.stands);
+      let words = words-visited heap store s ps there in let some = words-but-last heap store s ps there in (
+        with_visited store (map s.name ps),
+        in-phase Marking heap.setup.settings store (with_visited store (map s.name ps)) (Stepped Marking Marking ∷ visited_lines heap ps) (s.counts.phase_is ∙ marking)
+            (subst (λ (ls : List Line). MarkingStep heap.setup.settings store (Stepped Marking Marking ∷ ls) (with_visited store (map s.name ps))) (sym (lines-named heap store s ps there))
+            (goes_on_again heap store c marking v.first v.mid v.visits v.ran_empty v.second new v.again
+            (subst (λ (n : ℕ). n < heap.setup.settings.increment) (sym some) v.few)
+            (reaches (visited_words store.kept (map s.name ps)) heap.setup.settings.increment (subst (λ (n : ℕ). heap.setup.settings.increment ≤ n) (sym words) enough)))),
+        at.stands,
+      );
 }
   where
     reaches : (n increment : ℕ) → increment ≤ n → nat_le increment n ≡ true

@@ -1,13 +1,11 @@
 -- The list ran empty, the roots were queued again, and visits go on.
-use Rattle.std.proofs.Common.{◌≡◌, ℕ, ◌+◌, ◌≤◌, ◌<◌, Bool, true, false, IsTrue, List, [], ◌∷◌, ◌++◌, map, length, append_assoc, refl, sym, ap, ap₂, ◌∙◌, subst, inl, inr, arith}
+use Rattle.std.proofs.Common.{◌≡◌, ℕ, ◌+◌, ◌<◌, Bool, true, IsTrue, List, [], ◌∷◌, ◌++◌, map, length, append_assoc, refl, sym, ap, ◌∙◌, subst, inl, inr}
 use Rattle.std.specs.Prelude.{◌-◌, ◌&&◌, not, take, sum_by, nat_le, nat_eq}
 use Rattle.std.specs.List.{list_all, IsDistinct}
-use Rattle.std.proofs.lemmas.Bool.Decides.{nat_tests}
 use Rattle.object_model.proofs.Members.{and_first, and_second, and_both, in-either, in-left, in-right, map-same}
 use Rattle.object_model.proofs.Distinct.{distinct_append}
 use Rattle.object_model.specs.Sets.{is_in}
 use Rattle.object_model.specs.ObjectWords.{words_at}
-use Rattle.text_model.specs.declared.line.Line.{Line}
 use Rattle.text_model.specs.declared.line.Line.TheVariants.{Stepped, Visited}
 use Rattle.text_model.specs.declared.line.Phase.TheVariants.{Marking}
 use Rattle.store_model.specs.Store.{Store, is_settled}
@@ -15,7 +13,7 @@ use Rattle.store_model.specs.Roots.{roots_of}
 use Rattle.store_model.specs.Marking.{visited_words, with_visited, MarkingStep, GoesOn}
 use Rattle.store_model.specs.MarkingOrder.{settled_of, Visits}
 use Rattle.store_model.proofs.MarkVisit.{order-visits, order-roots, StepOrder}
-use Rattle.store_model.proofs.MarkVisitList.{visited-all, unvisited-all, distinct-visits, allowed-visits}
+use Rattle.store_model.proofs.MarkVisitList.{unvisited-all, distinct-visits, allowed-visits}
 use Rattle.remember_cards.specs.Remembered.{Remembered, is_held_of}
 use Rattle.heap_parts.specs.Parts.{HeapParts, word_in}
 use Rattle.heap_parts.specs.Places.{AreAmong}

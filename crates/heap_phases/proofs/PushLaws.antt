@@ -1,12 +1,11 @@
 -- A list is gone over, and what passes a test is queued.
-use Rattle.std.proofs.Common.{◌≡◌, ℕ, zero, suc, ◌+◌, ◌≤◌, ◌<◌, Bool, true, false, cond, List, [], ◌∷◌, ◌++◌, map, length, take, get_or, append_assoc, sym, ap, ◌∙◌}
+use Rattle.std.proofs.Common.{◌≡◌, ℕ, ◌+◌, ◌≤◌, ◌<◌, Bool, true, false, cond, List, [], ◌∷◌, ◌++◌, length, take, get_or, append_assoc, sym, ap, ◌∙◌}
 use Rattle.std.specs.Prelude.{filter, not}
-use Rattle.std.proofs.lemmas.List.{append-nil, map-append, take_more}
+use Rattle.std.proofs.lemmas.List.{append-nil}
 use Rattle.std.proofs.lemmas.List.Elements.{filter_more}
 use Rattle.std.proofs.lemmas.Bool.Decides.{nat_tests}
 use Rattle.heap_parts.specs.Places.{is_young}
-use Rattle.std.proofs.Common.{arith, refl}
-use Rattle.heap_space.specs.Extents.{Extent, Each}
+use Rattle.std.proofs.Common.{arith}
 
 pub queued : {X : Type 0} (test : X → Bool) (xs : List X) (i : ℕ) (x d : X) (old now new : List X) → i < length xs → get_or xs i d ≡ x → now ≡ old ++ filter test (take i xs)
     → test x ≡ true → new ≡ now ++ x ∷ [] → new ≡ old ++ filter test (take (i + 1) xs)

@@ -1,7 +1,6 @@
 -- Marking starts, as the code does it.
-use Rattle.std.proofs.Common.{◌≡◌, ℕ, List, [], ◌∷◌, ◌++◌, refl, sym, ap, ◌∙◌, subst}
+use Rattle.std.proofs.Common.{◌≡◌, ℕ, List, [], ◌∷◌, ◌++◌, sym, ap, ◌∙◌, subst}
 use Rattle.std.specs.Prelude.{not}
-use Rattle.object_model.specs.Sets.{is_in}
 use Rattle.text_model.specs.declared.line.Line.{Line}
 use Rattle.text_model.specs.declared.line.Line.TheVariants.{Stepped}
 use Rattle.text_model.specs.declared.line.Phase.{Phase}
@@ -16,7 +15,6 @@ use Rattle.heap_parts.proofs.Filters.{filter_none}
 use Rattle.heap_parts.proofs.PlaceLaws.{young-is_in}
 use Rattle.heap_phases.specs.Steps.{CanStep, ArePinsYoung}
 use Rattle.heap_phases.specs.Visiting.{old_roots, with_gray}
-use Rattle.heap_phases.proofs.StartStands.{marking_parts}
 use Rattle.heap_phases.proofs.SweepSteps.{in_phase}
 use Rattle.heap_phases.proofs.StepContracts.{starts_major}
 

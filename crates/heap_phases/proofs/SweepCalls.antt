@@ -1,6 +1,6 @@
 -- A step of sweeping, as the code does it.
-use Rattle.std.proofs.Common.{◌≡◌, ℕ, ◌+◌, ◌<◌, ◌≤◌, ◌^◌, Bool, true, false, List, [], ◌∷◌, ◌++◌, map, take, length, get_or, IfOk, Result, Ok, Err, refl, sym, ap, ap₂, ◌∙◌, subst, append_assoc, arith, inl, inr}
-use Rattle.std.specs.Prelude.{◌-◌, ◌==◌, ◌↔◌, min, nat_lt, not, filter}
+use Rattle.std.proofs.Common.{◌≡◌, ℕ, ◌+◌, ◌<◌, ◌≤◌, Bool, true, false, List, [], ◌∷◌, ◌++◌, map, take, length, get_or, refl, sym, ap, ap₂, ◌∙◌, subst, append_assoc, arith, inl, inr}
+use Rattle.std.specs.Prelude.{◌-◌, ◌==◌, ◌↔◌, min, nat_lt, not}
 use Rattle.std.specs.List.Sorted.{IsPermutation}
 use Rattle.std.proofs.lemmas.Bool.{cases_lt}
 use Rattle.std.proofs.lemmas.Bool.Decides.{nat_tests}
@@ -16,14 +16,13 @@ use Rattle.sweep_steps.specs.declared.SweepState.TheVariants.{Working, Finished}
 use Rattle.text_model.specs.declared.line.Line.{Line}
 use Rattle.text_model.specs.declared.line.Line.TheVariants.{Stepped, Freed}
 use Rattle.text_model.specs.declared.line.Phase.{Phase}
-use Rattle.text_model.specs.declared.line.Phase.TheVariants.{Sweeping, Finalizing}
+use Rattle.text_model.specs.declared.line.Phase.TheVariants.{Sweeping}
 use Rattle.object_model.specs.Sets.{is_in}
 use Rattle.type_table.specs.Table.{Table}
 use Rattle.store_model.specs.Store.{husk_words}
 use Rattle.store_model.specs.Sweeping.{husks_where}
 use Rattle.heap_parts.specs.Parts.{HeapParts}
 use Rattle.heap_parts.specs.Collects.{StepsMajor}
-use Rattle.heap_phases.specs.declared.StepEnd.{StepEnd}
 use Rattle.heap_phases.specs.Steps.{CanStep, CountsHusks}
 use Rattle.heap_phases.specs.Swept.{freed_words, swept_parts, phase_of}
 use Rattle.heap_phases.proofs.BlockHeads.{live_of, blocks_headed}

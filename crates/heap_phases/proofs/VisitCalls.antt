@@ -1,6 +1,6 @@
 -- A step of marking, as the code does it: visits, the roots queued again, and more visits.
-use Rattle.std.proofs.Common.{◌≡◌, ℕ, zero, suc, ◌+◌, ◌≤◌, ◌<◌, Bool, true, false, IsTrue, List, [], ◌∷◌, ◌++◌, map, length, take, append_assoc, length-append, refl, sym, ap, ap₂, ◌∙◌, subst, inl, inr, arith}
-use Rattle.std.specs.Prelude.{◌-◌, sum_by}
+use Rattle.std.proofs.Common.{◌≡◌, ℕ, suc, ◌+◌, ◌<◌, Bool, List, [], ◌∷◌, ◌++◌, length, take, length-append, refl, sym, ap, ap₂, ◌∙◌, subst, inr, arith}
+use Rattle.std.specs.Prelude.{◌-◌}
 use Rattle.std.proofs.lemmas.List.{map-append}
 use Rattle.std.proofs.lemmas.List.Sums.{sum_by-append, sum_by-take-le}
 use Rattle.object_model.specs.ObjectWords.{words_at}
@@ -11,7 +11,7 @@ use Rattle.heap_parts.specs.Parts.{HeapParts, word_in}
 use Rattle.heap_parts.specs.Places.{AreAmong}
 use Rattle.heap_phases.specs.Steps.{CanStep, ArePinsYoung}
 use Rattle.heap_phases.specs.Budget.{CanMark, MarksPlaces, VisitsTwice, VisitsWithin, IsFew, words_of_places, births_of, is_budget}
-use Rattle.heap_phases.specs.Visiting.{PlaceVisits, with_gray, old_roots}
+use Rattle.heap_phases.specs.Visiting.{with_gray, old_roots}
 use Rattle.heap_phases.proofs.MarkCalls.{can_mark}
 use Rattle.heap_phases.proofs.StartCalls.{pins_young}
 use Rattle.heap_phases.proofs.MarkingSteps.{take-among}

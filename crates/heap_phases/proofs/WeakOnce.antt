@@ -1,12 +1,11 @@
 -- The listed weak objects, each once, and whose births are told.
-use Rattle.std.proofs.Common.{◌≡◌, ℕ, ◌+◌, Bool, true, false, IsTrue, List, [], ◌∷◌, ◌++◌, map, sym, ap, ◌∙◌, subst, arith}
+use Rattle.std.proofs.Common.{◌≡◌, ℕ, ◌+◌, List, [], ◌∷◌, map, sym, ap, ◌∙◌, subst, arith}
 use Rattle.std.specs.Prelude.{filter, nat_eq}
 use Rattle.std.specs.List.{IsDistinct}
 use Rattle.std.specs.List.Sorted.{IsPermutation, IsNonDecreasing}
 use Rattle.std.proofs.lemmas.Bool.Decides.{nat_tests}
 use Rattle.std.proofs.lemmas.Map.Keys.{IsDistinct-IsPermutation}
 use Rattle.std.proofs.lemmas.List.Sorted.{IsPermutation-map}
-use Rattle.object_model.specs.Sets.{is_in}
 use Rattle.object_model.proofs.Distinct.{distinct-apart, distinct-tail}
 use Rattle.object_model.proofs.Members.{is_in-head, is_in-named, false-in, filter-agree, not-in}
 use Rattle.text_model.specs.declared.line.Phase.TheVariants.{Marking}
@@ -43,7 +42,7 @@ module _ (heap : HeapParts) (store : Store) (s : PartsStandFor heap store) (pinn
       → SortsBirths (word_in heap) (filter (clears heap.setup.types (word_in heap) s.name (is_white store)) heap.weaks) cleared
   cleared_sorted cleared told =
       let losing : births_losing heap.setup.types (word_in heap) (is_unvisited heap.nursery.words (word_in heap)) heap.weaks
-          ≡ map (λ p. word_in heap (p + 1)) (filter (clears heap.setup.types (word_in heap) s.name (is_white store)) heap.weaks) =
+      ≡ map (λ p. word_in heap (p + 1)) (filter (clears heap.setup.types (word_in heap) s.name (is_white store)) heap.weaks) =
       ap (λ (ws : List ℕ). map (λ p. word_in heap (p + 1)) (filter (λ p. is_unvisited heap.nursery.words (word_in heap) (target_at heap.setup.types (word_in heap) p)) ws)) weaks-once
       ∙ ap (map (λ p. word_in heap (p + 1))) (filter-agree (λ p. is_unvisited heap.nursery.words (word_in heap) (target_at heap.setup.types (word_in heap) p)) (clears heap.setup.types (word_in heap) s.name (is_white store)) heap.weaks
       (λ p t. let there = weak_there heap store s p t in sym (clears_is heap store s pinned marked marking p there.0 there.1))) in

@@ -1,20 +1,19 @@
 -- The end of marking, a part at a time.
-use Rattle.std.specs.Prelude.{◌≡◌, ℕ, Bool, ◌+◌, ◌<◌, IsSome, IsTrue, List, [], ◌++◌, map, filter, length, get_or, not}
+use Rattle.std.specs.Prelude.{◌≡◌, ℕ, Bool, ◌+◌, IsTrue, List, [], ◌++◌, map, filter, not}
 use Rattle.std.specs.List.Sorted.{IsPermutation, IsNonDecreasing, IsNonDecreasingBy}
 use Rattle.type_table.specs.declared.info.TypeInfo.{TypeInfo}
-use Rattle.type_table.specs.Table.{Table, value_at}
-use Rattle.heap_space.specs.Places.{has, word_at, lies_in_one}
+use Rattle.type_table.specs.Table.{Table}
+use Rattle.heap_space.specs.Places.{has, word_at}
 use Rattle.heap_space.specs.Memory.{Memory}
 use Rattle.heap_space.specs.Extents.{Extent, Each, KeepsWords, KeepsOutside}
 use Rattle.size_pages.specs.Headers.{RiseByPlace}
 use Rattle.size_pages.specs.Sweeping.{is_dead}
 use Rattle.old_space.specs.Calls.{BeginsSweep}
 use Rattle.old_space.specs.HasBlocks.{HasBlocks, KeepsSizes}
-use Rattle.old_space.specs.declared.Old.{Old}
 use Rattle.object_model.specs.Sets.{is_in}
-use Rattle.object_model.specs.ObjectWords.{type_id_at, info_at}
+use Rattle.object_model.specs.ObjectWords.{info_at}
 use Rattle.text_model.specs.declared.line.Line.{Line}
-use Rattle.text_model.specs.declared.line.Line.TheVariants.{Cleared, Destroyed, LinkCut}
+use Rattle.text_model.specs.declared.line.Line.TheVariants.{Cleared, LinkCut}
 use Rattle.text_model.specs.declared.line.Phase.TheVariants.{Marking, Sweeping}
 use Rattle.store_model.specs.Store.{Store}
 use Rattle.store_model.specs.Links.{cut_links, link_ends}

@@ -1,5 +1,5 @@
 -- What a major step asks for, and what it tells of husks.
-use Rattle.std.specs.Prelude.{◌≡◌, ℕ, ◌+◌, []}
+use Rattle.std.specs.Prelude.{◌≡◌, ◌+◌, []}
 use Rattle.store_model.specs.Store.{Store, husk_words}
 use Rattle.heap_parts.specs.Places.{old_places}
 use Rattle.heap_parts.specs.Parts.{HeapParts, pinned_places}

@@ -60,10 +60,7 @@ fn is_dead(space: &Space, place: u64) -> bool
 }
 
 /// Lists the places of the blocks.
-pub(crate) fn list_places(
-    blocks: &[(u64, u64)],
-    places: &mut Vec<u64>,
-) -> Result<(), AllocError>
+pub(crate) fn list_places(blocks: &[(u64, u64)], places: &mut Vec<u64>) -> Result<(), AllocError>
     ensures { OnOk result (places.new.items ≡ places_in blocks.now) }
 {
     places.clear();

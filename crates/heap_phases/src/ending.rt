@@ -27,7 +27,12 @@ impl Phases {
         ensures counts { IfOk result (λ end. CountsHusks parts.old parts.new end) }
     {
         clear_targets(parts, &mut self.births, events)?;
-        list_dead(&parts.old_blocks, &parts.space, &mut self.live, &mut self.dead)?;
+        list_dead(
+            &parts.old_blocks,
+            &parts.space,
+            &mut self.live,
+            &mut self.dead,
+        )?;
         list_destroyed(&parts.space, &parts.types, &self.dead, &mut self.births)?;
         tell_destroyed(events, &self.births)?;
         list_places(&self.dead, &mut self.places)?;

@@ -11,10 +11,7 @@ use std::alloc::AllocError;
 use text_model::{Line, Phase};
 
 /// The cycle ends, and the threshold of the next one is set.
-pub(crate) fn finalize(
-    parts: &mut Parts,
-    events: &mut Vec<Line>,
-) -> Result<StepEnd, AllocError>
+pub(crate) fn finalize(parts: &mut Parts, events: &mut Vec<Line>) -> Result<StepEnd, AllocError>
     requires can { CanStep parts.old }
     requires phase { parts.old.phase ≡ Finalizing }
     ensures steps { OnOk result (StepsMajor parts.old parts.new events.old.items events.new.items) }

@@ -3,13 +3,12 @@ use Rattle.std.specs.Prelude.{IsSorted, sum_by}
 use Rattle.std.specs.Ordering.{nat_cmp}
 use Rattle.std.specs.List.Sorted.{IsNonDecreasing}
 use Rattle.heap_space.specs.Extents.{Extent}
-use Rattle.text_model.specs.declared.line.Line.{Line}
 use Rattle.text_model.specs.declared.line.Line.TheVariants.{Destroyed}
 use Rattle.heap_parts.specs.Parts.{HeapParts}
 use Rattle.heap_parts.specs.contracts.parts.Parts.{the_view}
 use Rattle.heap_phases.specs.Ending.{ClearsWeaks, AreDestroyed, BecomesHusks, HoldObjects, places_in, without_places, cut_lines}
 use Rattle.heap_phases.proofs.HuskTable.{places_rise, places_sorted}
-use Rattle.heap_phases.proofs.EndCan.{Listed, may_list, is_listed, listed_objects, listed_rise, listed_few, dropped_objects, dropped_waits, becomes_counted, becomes_major}
+use Rattle.heap_phases.proofs.EndCan.{may_list, is_listed, listed_objects, listed_rise, listed_few, dropped_objects, dropped_waits, becomes_counted, becomes_major}
 use Rattle.heap_phases.proofs.Phases.end_marking.Goals as goal
 
 pub list_dead-requires : goal.list_dead-requires

@@ -1,5 +1,4 @@
 use Rattle.std.proofs.Common.{◌≡◌, ◌++◌, take, map}
-use Rattle.std.specs.Prelude.{filter}
 use Rattle.heap_phases.specs.Ending.{husk_of}
 use Rattle.heap_phases.proofs.dead.append_husks.Given as goal
 

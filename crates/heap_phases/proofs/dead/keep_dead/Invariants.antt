@@ -1,4 +1,4 @@
-use Rattle.std.proofs.Common.{◌≡◌, ◌++◌, take, map}
+use Rattle.std.proofs.Common.{◌≡◌, ◌++◌, take}
 use Rattle.std.specs.Prelude.{filter}
 use Rattle.heap_phases.specs.Ending.{is_dead_in}
 use Rattle.heap_phases.proofs.dead.keep_dead.Given as goal

@@ -1,8 +1,8 @@
-use Rattle.std.proofs.Common.{◌≡◌, ℕ, List, [], ◌++◌, sym, ap, ap₂, ◌∙◌, subst}
+use Rattle.std.proofs.Common.{◌≡◌, List, ◌++◌, sym, ap₂, ◌∙◌, subst}
 use Rattle.std.specs.Prelude.{filter}
 use Rattle.heap_space.specs.Extents.{Extent}
 use Rattle.size_pages.specs.Headers.{AppendsLive}
-use Rattle.heap_phases.specs.Ending.{AreReadable, AreDead, is_dead_in}
+use Rattle.heap_phases.specs.Ending.{AreReadable, is_dead_in}
 use Rattle.heap_phases.proofs.DeadCalls.{on_ok, live_readable, dead_listed}
 use Rattle.heap_phases.proofs.dead.list_dead.Goals as goal
 

@@ -1,4 +1,4 @@
-use Rattle.std.proofs.Common.{rules, of_calls, ℕ, List, ◌++◌, map, filter, ap, ◌∙◌, subst}
+use Rattle.std.proofs.Common.{rules, of_calls, ℕ, List, ◌++◌, map, ap, ◌∙◌, subst}
 use Rattle.std.specs.List.Sorted.{IsPermutation}
 use Rattle.std.proofs.lemmas.List.Sorted.{IsNonDecreasingBy-from_sort_by_key}
 use Rattle.heap_phases.specs.Ending.{husk_of}

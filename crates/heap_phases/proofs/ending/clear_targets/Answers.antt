@@ -1,4 +1,4 @@
-use Rattle.std.proofs.Common.{◌≡◌, ℕ, List, [], ◌++◌, map, sym, ap, ◌∙◌, subst}
+use Rattle.std.proofs.Common.{ℕ, List, ◌++◌, map, sym, ap, ◌∙◌, subst}
 use Rattle.text_model.specs.declared.line.Line.TheVariants.{Cleared}
 use Rattle.weak_lists.specs.Conditions.{CanClear}
 use Rattle.weak_lists.specs.Cleared.{TellsInOrder, births_losing}

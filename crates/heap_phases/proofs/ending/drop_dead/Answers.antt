@@ -1,4 +1,4 @@
-use Rattle.std.proofs.Common.{◌≡◌, ℕ, List, ap, ap₂, ◌∙◌}
+use Rattle.std.proofs.Common.{ℕ, List, ap, ap₂, ◌∙◌}
 use Rattle.store_model.specs.Structs.{Structs}
 use Rattle.remember_cards.specs.Remembered.{Remembered}
 use Rattle.heap_parts.specs.Parts.{HeapParts}

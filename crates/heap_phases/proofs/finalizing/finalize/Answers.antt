@@ -1,7 +1,6 @@
-use Rattle.std.proofs.Common.{List, ◌∷◌, ◌++◌, refl, sym, ap, ◌∙◌, subst, []}
+use Rattle.std.proofs.Common.{List, ◌∷◌, ◌++◌, refl, ap, ◌∙◌, subst, []}
 use Rattle.text_model.specs.declared.line.Line.{Line}
 use Rattle.text_model.specs.declared.line.Line.TheVariants.{ThresholdIs}
-use Rattle.text_model.specs.declared.line.Phase.{Phase}
 use Rattle.heap_parts.specs.Parts.{HeapParts}
 use Rattle.heap_parts.specs.Collects.{StepsMajor}
 use Rattle.heap_parts.specs.contracts.parts.Parts.{the_view}

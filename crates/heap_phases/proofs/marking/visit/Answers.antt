@@ -1,6 +1,5 @@
-use Rattle.std.proofs.Common.{ℕ, [], sym, ap, subst}
+use Rattle.std.proofs.Common.{ℕ, sym, ap, subst}
 use Rattle.std.specs.Prelude.{◌-◌}
-use Rattle.mark_steps.specs.declared.MarkEnd.TheVariants.{Empty}
 use Rattle.heap_parts.specs.Parts.{HeapParts}
 use Rattle.heap_phases.specs.Budget.{CanMark, MarksPlaces}
 use Rattle.heap_phases.proofs.MarkCalls.{can_mark}

@@ -1,5 +1,4 @@
-use Rattle.std.proofs.Common.{List, sym, ap, ◌∙◌, subst}
-use Rattle.text_model.specs.declared.line.Line.{Line}
+use Rattle.std.proofs.Common.{◌∙◌}
 use Rattle.heap_parts.specs.contracts.parts.Parts.{the_view}
 use Rattle.heap_phases.proofs.StartCalls.{pins_young, start_major}
 use Rattle.heap_phases.proofs.roots.start.Goals as goal

@@ -1,4 +1,4 @@
-use Rattle.std.proofs.Common.{rules, of_calls, ◌∙◌, ap, filter}
+use Rattle.std.proofs.Common.{rules, of_calls}
 use Rattle.std.specs.Prelude.{not}
 use Rattle.std.proofs.lemmas.Fn.{filter_same}
 use Rattle.object_model.specs.Sets.{is_in}

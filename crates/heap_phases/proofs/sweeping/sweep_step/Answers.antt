@@ -1,12 +1,10 @@
-use Rattle.std.proofs.Common.{◌≡◌, ℕ, ◌∷◌, ◌++◌, [], List, map, sym, ap, ap₂, ◌∙◌, subst, arith}
+use Rattle.std.proofs.Common.{ℕ, ◌++◌, List, map, sym, ap, ap₂, ◌∙◌, subst, arith}
 use Rattle.std.specs.Prelude.{not, min}
-use Rattle.old_space.specs.Headers.{StandsWithHeaders}
 use Rattle.old_space.specs.Sweeping.{SweepsLowest, units_left}
 use Rattle.sweep_steps.specs.Steps.{HasSwept}
 use Rattle.object_model.specs.Sets.{is_in}
 use Rattle.text_model.specs.declared.line.Line.{Line}
-use Rattle.text_model.specs.declared.line.Line.TheVariants.{Stepped, Freed}
-use Rattle.text_model.specs.declared.line.Phase.TheVariants.{Sweeping}
+use Rattle.text_model.specs.declared.line.Line.TheVariants.{Freed}
 use Rattle.store_model.specs.Sweeping.{husks_where}
 use Rattle.heap_parts.specs.Parts.{HeapParts}
 use Rattle.heap_parts.specs.Collects.{StepsMajor}
