@@ -3,6 +3,7 @@ ghost use Rattle.std.specs.Prelude.{◌≡◌, ◌<◌, ◌^◌, OnOk, IfOk};
 ghost use Rattle.text_model.specs.declared.line.Phase.TheVariants.{Finalizing};
 ghost use Rattle.store_model.specs.Sweeping.{next_threshold as next_threshold_of};
 ghost use Rattle.heap_parts.specs.Collects.{StepsMajor};
+ghost use Rattle.heap_phases.specs.Bounds.{LeavesNone};
 ghost use Rattle.heap_phases.specs.Steps.{CanStep, CountsHusks};
 
 use crate::StepEnd;
@@ -16,6 +17,7 @@ pub(crate) fn finalize(parts: &mut Parts, events: &mut Vec<Line>) -> Result<Step
     requires phase { parts.old.phase ≡ Finalizing }
     ensures steps { OnOk result (StepsMajor parts.old parts.new events.old.items events.new.items) }
     ensures counts { IfOk result (λ end. CountsHusks parts.old parts.new end) }
+    ensures none_left { OnOk result (LeavesNone parts.old parts.new) }
 {
     events.push(Line::Stepped {
         from: Phase::Finalizing,

@@ -6,6 +6,7 @@ ghost use Rattle.text_model.specs.declared.line.Phase.TheVariants.{Sweeping};
 ghost use Rattle.store_model.specs.Store.{husk_words};
 ghost use Rattle.store_model.specs.Sweeping.{husks_where};
 ghost use Rattle.heap_parts.specs.Collects.{StepsMajor};
+ghost use Rattle.heap_phases.specs.Bounds.{SweepsUnits};
 ghost use Rattle.heap_phases.specs.Steps.{CanStep, CountsHusks};
 ghost use Rattle.heap_phases.specs.Swept.{freed_words, phase_of};
 
@@ -27,6 +28,7 @@ pub(crate) fn sweep_step(
     requires phase { parts.old.phase ≡ Sweeping }
     ensures steps { OnOk result (StepsMajor parts.old parts.new events.old.items events.new.items) }
     ensures counts { IfOk result (λ end. CountsHusks parts.old parts.new end) }
+    ensures units { OnOk result (SweepsUnits parts.old parts.new) }
 {
     freed.clear();
     let units = parts.settings.sweep;

@@ -12,6 +12,8 @@ use Rattle.heap_parts.specs.contracts.parts.Parts.{the_view}
 use Rattle.heap_phases.specs.Steps.{CanStep, CountsHusks}
 use Rattle.heap_phases.specs.Swept.{freed_words}
 use Rattle.heap_phases.proofs.SweepCalls.{AreLeft, left_by, sweep_major, sweep_counts, can_sweep, husks_few, freed_few}
+use Rattle.heap_phases.specs.Bounds.{SweepsUnits}
+use Rattle.heap_phases.proofs.BoundCalls.{sweeps_units}
 use Rattle.heap_phases.proofs.sweeping.sweep_step.Goals as goal
 
 pub sweep-requires : goal.sweep-requires
@@ -51,3 +53,9 @@ returns-clause-counts c =
     } in
     subst (λ (h : HeapParts). CountsHusks h (left_by heap c.sweep.new.space c.sweep.new.s c.drop_husks-words.result c.drop_husks-words.new.husks.items c.phase_after-parts-inside.result) (record { husk_words = 0; freed_words = c.drop_husks-words.result })) c.parts.view_is
     (sweep_counts heap c.sweep.new.s c.sweep.new.space freed c.in_ok-state.state _ _ _ left (subst CanStep (sym c.parts.view_is) c.requires.can))
+
+pub returns-clause-units : goal.returns-clause-units
+returns-clause-units c =
+    let heap : HeapParts = the_view c.parts.inside in
+    subst (λ (h : HeapParts). SweepsUnits h (left_by heap c.sweep.new.space c.sweep.new.s c.drop_husks-words.result c.drop_husks-words.new.husks.items c.phase_after-parts-inside.result)) c.parts.view_is
+    (sweeps_units heap _ c.in_ok-state.state c.in_ok-state.ensures.less c.phase_after-parts-inside.ensures c.in_ok-state.ensures.finished)
