@@ -4,6 +4,8 @@ pub mod FieldCalls
 pub mod SlotCalls
 pub mod StructReady
 pub mod StructCalls
+pub mod FinalizerReady
+pub mod FinalizerCalls
 pub mod BarrierCalls
 pub mod TellerLaws
 pub mod LookLaws

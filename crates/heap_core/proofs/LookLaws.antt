@@ -1,9 +1,8 @@
 -- A look at a store that the parts of a heap stand for sees what they tell.
 use Rattle.std.proofs.Common.{◌≡◌, ◌≢◌, ℕ, ◌+◌, Bool, true, false, IsTrue, List, [], ◌∷◌, ◌++◌, map, Option, Some, None, option_map, refl, sym, ap, ap₂, ◌∙◌, subst, inl, inr, arith}
-use Rattle.std.specs.Prelude.{flat_map, is_some, option_and_then}
+use Rattle.std.specs.Prelude.{is_some, option_and_then}
 use Rattle.std.proofs.lemmas.Bool.{cases_Bool}
 use Rattle.std.proofs.lemmas.Bool.Decides.{eqb_tells}
-use Rattle.std.proofs.lemmas.List.{map-append}
 use Rattle.type_table.specs.declared.info.TypeInfo.{TypeInfo}
 use Rattle.type_table.specs.Table.{Table, KeysRise, value_at}
 use Rattle.object_header.specs.Words.{has_flag}
@@ -23,11 +22,11 @@ use Rattle.store_model.specs.Structs.{state_of, p_link_of, with_object}
 use Rattle.store_model.specs.Look.{look, is_held_in}
 use Rattle.store_model.specs.Unbuilt.{room_of}
 use Rattle.heap_parts.specs.Parts.{HeapParts, word_in, place_in, pinned_places}
+use Rattle.heap_parts.specs.NamedFinals.{final_births}
+use Rattle.heap_parts.specs.Registers.{is_final}
 use Rattle.heap_parts.specs.Places.{is_young}
-use Rattle.heap_parts.specs.Lists.{named_queues}
 use Rattle.heap_parts.specs.StandsFor.{PartsStandFor}
-use Rattle.heap_parts.specs.Told.{kind_from, kind_at, if_there, finalizer_places, has_p_link_at, told, room_told}
-use Rattle.object_model.proofs.Members.{in-either}
+use Rattle.heap_parts.specs.Told.{kind_from, kind_at, if_there, has_p_link_at, told, room_told}
 use Rattle.heap_parts.proofs.PlaceLaws.{placed_words, is_in-young, is_in-old, young-is_in}
 use Rattle.heap_parts.proofs.SlotLaws.{slot-pointer, pointer-some}
 use Rattle.store_model.proofs.StructLaws.{value_at-objects}
@@ -76,12 +75,6 @@ some-p_link (entry ∷ structs) birth = elim (cases_Bool (is_p_link_of (Some bir
   | inr f ↦ rw f (some-p_link structs birth)
 ]
 
--- the births in queues
-pub queues-names : (name : ℕ → ℕ) (queues : Table (List ℕ)) → flat_map (λ entry. entry.1) (named_queues name queues) ≡ map name (flat_map (λ entry. entry.1) queues)
-queues-names name [] = refl
-queues-names name (entry ∷ queues) =
-    ap (λ (xs : List ℕ). map name entry.1 ++ xs) (queues-names name queues) ∙ sym (map-append name entry.1 (flat_map (λ (e : ℕ × List ℕ). e.1) queues))
-
 -- the state of a structure does not depend on the name of its object
 same-state : (rename : ℕ → ℕ) (found : Option Struct) → state_of (option_map (with_object rename) found) ≡ state_of found
 same-state rename None = refl
@@ -115,32 +108,13 @@ module _ (heap : HeapParts) (store : Store) (s : PartsStandFor heap store) where
       ap (is_in (s.name p)) births ∙ (in-named s.name s.places p (pinned_places heap) s.words.objects.differ (there root full) (λ q u. (young-is_in s.places q (s.pins.there q u)).0)
       ∙ pinned-place p (there root full)))
 
-  final_births : registered_births store ++ waiting_births store ≡ map s.name (finalizer_places heap)
-  final_births =
-      let f = s.finalizers in
-      let registered : registered_births store ≡ map s.name (map (λ entry. entry.0) heap.registered) = ap (λ (es : List (ℕ × ℕ)). map (λ entry. entry.0) es) f.registered_are.named ∙ entries-names s.name heap.registered in
-      let chosen : map (λ entry. entry.0) store.chosen ≡ map s.name (map (λ entry. entry.0) heap.chosen) = ap (λ (es : List (ℕ × ℕ)). map (λ entry. entry.0) es) f.chosen_are.named ∙ entries-names s.name heap.chosen in
-      let queued : flat_map (λ entry. entry.1) store.queues ≡ map s.name (flat_map (λ entry. entry.1) heap.queues) = ap (λ (qs : Table (List ℕ)). flat_map (λ entry. entry.1) qs) f.queues_are.named ∙ queues-names s.name heap.queues in
-      ap₂ (λ (xs ys : List ℕ). xs ++ ys) registered
-      (ap₂ (λ (xs ys : List ℕ). xs ++ ys) chosen queued ∙ sym (map-append s.name (map (λ entry. entry.0) heap.chosen) (flat_map (λ entry. entry.1) heap.queues)))
-      ∙ sym (map-append s.name (map (λ entry. entry.0) heap.registered) (map (λ entry. entry.0) heap.chosen ++ flat_map (λ entry. entry.1) heap.queues))
-
-  finals-there : (q : ℕ) → IsTrue (is_in q (finalizer_places heap)) → IsTrue (is_in q s.places)
-  finals-there q t = elim (in-either q (map (λ entry. entry.0) heap.registered) (map (λ entry. entry.0) heap.chosen ++ flat_map (λ entry. entry.1) heap.queues) t) [
-    | inl u ↦ s.finalizers.registered_are.there q u
-    | inr u ↦ elim (in-either q (map (λ entry. entry.0) heap.chosen) (flat_map (λ entry. entry.1) heap.queues) u) [
-      | inl v ↦ s.finalizers.chosen_are.there q v
-      | inr v ↦ s.finalizers.queues_are.there q v
-    ]
-  ]
-
-  registered : (root : ℕ) → is_held_in (held store.slots root) (registered_births store ++ waiting_births store)
-      ≡ if_there (place_in heap root) (is_in (place_in heap root) (finalizer_places heap))
+  registered : (root : ℕ) → is_held_in (held store.slots root) (registered_births store ++ waiting_births store) ≡ if_there (place_in heap root) (is_final heap (place_in heap root))
   registered root =
       let p : ℕ = place_in heap root in let births : List ℕ = registered_births store ++ waiting_births store in
+      let known : final_births heap.finals ≡ births = ap final_births s.finalizers.births_are in
       ap (λ (b : Option ℕ). is_held_in b births) (slot-holds heap store root s)
-      ∙ held-by s.name p births (is_in p (finalizer_places heap)) (λ full.
-      ap (is_in (s.name p)) final_births ∙ in-named s.name s.places p (finalizer_places heap) s.words.objects.differ (there root full) finals-there)
+      ∙ held-by s.name p births (is_final heap p) (λ full.
+      ap (is_in (s.name p)) (sym known) ∙ ap (λ (b : ℕ). is_in b (final_births heap.finals)) (s.words.objects.named p (there root full)))
 
   linked : (root : ℕ) → has_p_link store.structs (held store.slots root) ≡ if_there (place_in heap root) (has_p_link_at heap (place_in heap root))
   linked root =

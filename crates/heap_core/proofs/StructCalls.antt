@@ -154,15 +154,15 @@ next_dead_does heap = next_dead_at heap heap.links.dead refl
 abbrev pub place_found : Option ℕ → ℕ
 place_found found = unwrap_or found 0
 
-place-found : (found : Option ℕ) → place_found found ≡ place_or_nil found
+pub place-found : (found : Option ℕ) → place_found found ≡ place_or_nil found
 place-found None = refl
 place-found (Some p) = refl
 
-found-pointer : (places : List ℕ) (found : Option ℕ) → ((p : ℕ) → found ≡ Some p → IsTrue (is_in p places)) → IsPointer places (place_found found)
+pub found-pointer : (places : List ℕ) (found : Option ℕ) → ((p : ℕ) → found ≡ Some p → IsTrue (is_in p places)) → IsPointer places (place_found found)
 found-pointer places None there = inl refl
 found-pointer places (Some p) there = inr (there p refl)
 
-found-named : (name : ℕ → ℕ) (found : Option ℕ) → ((p : ℕ) → found ≡ Some p → p ≢ 0) → renamed name (place_found found) ≡ option_map name found
+pub found-named : (name : ℕ → ℕ) (found : Option ℕ) → ((p : ℕ) → found ≡ Some p → p ≢ 0) → renamed name (place_found found) ≡ option_map name found
 found-named name None full = renamed-none name 0 refl
 found-named name (Some p) full = renamed-full name p (full p refl)
 

@@ -41,7 +41,7 @@ fall_found (Some (Unlinked own)) more e = (Unlinked own, refl, leb-false own 0 (
 fall_found (Some Pending) more e = absurd (let no : ⊥ = cc in no)
 
 -- where a slot is not told to be empty, its place is not 0
-full_place : (types : Table TypeInfo) (word : ℕ → ℕ) (place : ℕ) → is_none (kind_at types word place) ≡ false → place ≢ 0
+pub full_place : (types : Table TypeInfo) (word : ℕ → ℕ) (place : ℕ) → is_none (kind_at types word place) ≡ false → place ≢ 0
 full_place types word place e = elim (eqb_tells place 0) [
   | inl is ↦ absurd (let yes : is_none (kind_at types word place) ≡ true = rw is.0 refl in let no : ⊥ = cc in no)
   | inr is ↦ is.1

@@ -4,6 +4,7 @@
 mod births;
 mod fault;
 mod fields;
+mod finalizers;
 mod heap;
 mod identity;
 mod pinning;

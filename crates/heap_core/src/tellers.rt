@@ -126,6 +126,17 @@ impl Heap {
         }
     }
 
+    /// Whether a slot holds an object that is registered, chosen or queued.
+    pub fn was_registered(&self, root: u32) -> bool
+        requires { IsStanding self.now }
+        ensures { result ≡ (told_by self.now).was_registered root }
+    {
+        match &self.state {
+            State::Started(parts) => parts.was_registered(root),
+            State::Closed | State::Spent => false,
+        }
+    }
+
     /// Whether a slot holds an object with a P link.
     pub fn has_p_link(&self, root: u32) -> bool
         requires { IsStanding self.now }

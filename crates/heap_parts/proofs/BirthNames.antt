@@ -11,6 +11,7 @@ use Rattle.store_model.specs.Store.{Struct, Linked, Unlinked, Pending}
 use Rattle.object_model.specs.Sets.{is_in}
 use Rattle.store_model.specs.Structs.{Structs, object_of, with_object, with_objects}
 use Rattle.remember_cards.specs.Remembered.{Held, Remembered, holds_item, is_held_of}
+use Rattle.heap_parts.specs.NamedFinals.{NamedFinals}
 use Rattle.heap_parts.specs.Places.{AreAmong}
 use Rattle.heap_parts.specs.Lists.{named_entries, named_queues, HoldsList, HoldsEntries, HoldsQueues, HoldsLinks}
 use Rattle.heap_parts.specs.StandsFor.{HoldsFinalizers}
@@ -95,10 +96,10 @@ module _ {places more : List ℕ} {name other : ℕ → ℕ} (agree : AgreeOn ot
     there = λ p t. less p (h.there p t);
   }
 
-  pub finalizers_agree : {registered chosen : List (ℕ × ℕ)} {queues : Table (List ℕ)} {stored_registered stored_chosen : List (ℕ × ℕ)} {stored_queues : Table (List ℕ)}
-      → HoldsFinalizers registered chosen queues places name stored_registered stored_chosen stored_queues
-      → HoldsFinalizers registered chosen queues more other stored_registered stored_chosen stored_queues
-  finalizers_agree h = record { registered_are = entries_agree h.registered_are; chosen_are = entries_agree h.chosen_are; queues_are = queues_agree h.queues_are }
+  pub finalizers_agree : {finals : NamedFinals} {queue_count : ℕ} {registered chosen : List (ℕ × ℕ)} {queues : Table (List ℕ)} {stored_registered stored_chosen : List (ℕ × ℕ)} {stored_queues : Table (List ℕ)}
+      → HoldsFinalizers finals queue_count registered chosen queues places name stored_registered stored_chosen stored_queues
+      → HoldsFinalizers finals queue_count registered chosen queues more other stored_registered stored_chosen stored_queues
+  finalizers_agree h = record { registered_are = entries_agree h.registered_are; chosen_are = entries_agree h.chosen_are; queues_are = queues_agree h.queues_are; births_are = h.births_are }
 
   pub links_agree : {links : Structs} {structs : Table Struct} {dead : List ℕ} → KeysRise structs → HoldsLinks links places name structs dead → HoldsLinks links more other structs dead
   links_agree {links = links} rises h = record {

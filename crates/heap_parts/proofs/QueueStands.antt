@@ -1,9 +1,8 @@
 -- An object is registered, or comes out of its queue.
-use Rattle.std.proofs.Common.{◌≡◌, ◌≢◌, ℕ, Bool, true, false, IsTrue, nat_eq, List, [], ◌∷◌, ◌++◌, map, Option, Some, None, refl, sym, ap, ap₂, ◌∙◌, subst, inl, inr, arith}
-use Rattle.std.specs.Prelude.{IsFalse, slice_set, option_map, ◌==◌, cond, not, nat_lt}
+use Rattle.std.proofs.Common.{◌≡◌, ◌≢◌, ℕ, IsTrue, List, [], ◌∷◌, ◌++◌, map, Option, Some, None, refl, sym, ap, ap₂, ◌∙◌, subst, inl, inr, arith}
+use Rattle.std.specs.Prelude.{IsFalse, slice_set, option_map}
 use Rattle.std.proofs.lemmas.List.{map-append}
-use Rattle.std.proofs.lemmas.Map.Made.{lookup-map_values}
-use Rattle.type_table.specs.Table.{Table, value_at, with_value, without_key}
+use Rattle.type_table.specs.Table.{Table, value_at}
 use Rattle.object_model.proofs.Members.{is_in-append}
 use Rattle.store_model.specs.Store.{Store}
 use Rattle.object_model.specs.Sets.{is_in}
@@ -12,19 +11,19 @@ use Rattle.store_model.specs.Look.{is_held_in}
 use Rattle.store_model.specs.Sound.{waiting_births}
 use Rattle.store_model.specs.Roots.{registered_births}
 use Rattle.store_model.specs.PlainCommands.{register_slot, registered_with, first_of, without_first, next_of, take_next}
+use Rattle.heap_parts.specs.NamedFinals.{NamedFinals}
+use Rattle.heap_parts.specs.Effects.{with_slot}
 use Rattle.heap_parts.specs.Parts.{HeapParts, place_in}
+use Rattle.heap_parts.specs.Registers.{with_final, with_registered, next_place, less_final, without_next}
 use Rattle.heap_parts.specs.Lists.{named_queues, HoldsSlots}
 use Rattle.heap_parts.specs.StandsFor.{PartsStandFor}
 use Rattle.heap_parts.proofs.StandLaws.{in_slot}
 use Rattle.store_model.proofs.RootLaws.{held_root, can_root, RootChange}
 use Rattle.store_model.proofs.RootChanges.{register_change, next_change}
+use Rattle.heap_parts.proofs.QueueTables.{value-told, with-told, without-told}
 use Rattle.heap_parts.proofs.RootStands.{rooted_stands, slots-set}
 use Rattle.heap_parts.proofs.ReviveStands.{place_or_nil, renamed-full}
 use Rattle.store_model.proofs.QueueLaws.{first-less, first-queued, first-is}
-
--- the heap with one registered object more
-abbrev pub with_registered : HeapParts → ℕ → ℕ → HeapParts
-with_registered heap place queue = record heap { registered = heap.registered ++ (place, queue) ∷ [] }
 
 -- The object in a slot is registered, which is neither registered nor waits for its queue yet.
 pub register_stands : (heap : HeapParts) (store : Store) (root queue : ℕ) (s : PartsStandFor heap store) → place_in heap root ≢ 0
@@ -48,56 +47,44 @@ register_stands heap store root queue s full out =
       };
       chosen_are = s.finalizers.chosen_are;
       queues_are = s.finalizers.queues_are;
+      births_are = ap₂ (λ (f : NamedFinals) (b : ℕ). with_final f b queue) s.finalizers.births_are (sym (s.words.objects.named place here.there));
     }) s.links)
-
--- the queues under other names
-value-named : (name : ℕ → ℕ) (queues : Table (List ℕ)) (queue : ℕ) → value_at (named_queues name queues) queue ≡ option_map (map name) (value_at queues queue)
-value-named name queues queue = lookup-map_values (map name) (nat_eq queue) queues
-
-with-named : (name : ℕ → ℕ) (queue : ℕ) (rest : List ℕ) (qs : Table (List ℕ)) → named_queues name (with_value qs queue rest) ≡ with_value (named_queues name qs) queue (map name rest)
-with-named name queue rest [] = refl
-with-named name queue rest (q ∷ qs) = by (with-named name queue rest qs) (queue == q.0) (nat_lt queue q.0)
-  where
-    by : named_queues name (with_value qs queue rest) ≡ with_value (named_queues name qs) queue (map name rest) → (a b : Bool) → named_queues name (cond a ((queue, rest) ∷ qs) (cond b ((queue, rest) ∷ (q ∷ qs)) (q ∷ with_value qs queue rest)))
-        ≡ cond a ((queue, map name rest) ∷ named_queues name qs) (cond b ((queue, map name rest) ∷ ((q.0, map name q.1) ∷ named_queues name qs)) ((q.0, map name q.1) ∷ with_value (named_queues name qs) queue (map name rest)))
-    by more true b = refl
-    by more false true = refl
-    by more false false = ap (λ (xs : Table (List ℕ)). (q.0, map name q.1) ∷ xs) more
-
-without-named : (name : ℕ → ℕ) (queue : ℕ) (qs : Table (List ℕ)) → named_queues name (without_key qs queue) ≡ without_key (named_queues name qs) queue
-without-named name queue [] = refl
-without-named name queue (q ∷ qs) = by (without-named name queue qs) (q.0 == queue)
-  where
-    by : named_queues name (without_key qs queue) ≡ without_key (named_queues name qs) queue → (a : Bool) → named_queues name (cond (not a) (q ∷ without_key qs queue) (without_key qs queue)) ≡ cond (not a) ((q.0, map name q.1) ∷ without_key (named_queues name qs) queue) (without_key (named_queues name qs) queue)
-    by more true = more
-    by more false = ap (λ (xs : Table (List ℕ)). (q.0, map name q.1) ∷ xs) more
 
 first-named : (name : ℕ → ℕ) (queues : Table (List ℕ)) (queue : ℕ) (found : Option (List ℕ))
     → named_queues name (without_first queues queue found) ≡ without_first (named_queues name queues) queue (option_map (map name) found)
 first-named name queues queue None = refl
 first-named name queues queue (Some []) = refl
-first-named name queues queue (Some (b ∷ [])) = without-named name queue queues
-first-named name queues queue (Some (b ∷ (c ∷ rest))) = with-named name queue (c ∷ rest) queues
+first-named name queues queue (Some (b ∷ [])) = without-told name queue queues
+first-named name queues queue (Some (b ∷ (c ∷ rest))) = with-told name queue (c ∷ rest) queues
+
+stored-named : {heap : HeapParts} {store : Store} (queue : ℕ) (s : PartsStandFor heap store) → value_at store.queues queue ≡ option_map (map s.name) (value_at heap.queues queue)
+stored-named {heap = heap} queue s =
+    ap (λ (qs : Table (List ℕ)). value_at qs queue) s.finalizers.queues_are.named ∙ value-told s.name heap.queues queue
+
+-- what comes next from a queue is there
+pub next_there : (heap : HeapParts) (store : Store) (queue : ℕ) (s : PartsStandFor heap store) → (p : ℕ) → next_place heap queue ≡ Some p → IsTrue (is_in p s.places)
+next_there heap store queue s p e = s.finalizers.queues_are.there p (first-queued heap.queues queue p (value_at heap.queues queue) refl e)
+
+-- and goes by its name in the store
+pub next_named : (heap : HeapParts) (store : Store) (queue : ℕ) (s : PartsStandFor heap store) → next_of store queue ≡ option_map s.name (next_place heap queue)
+next_named heap store queue s = ap first_of (stored-named queue s) ∙ first-is s.name (value_at heap.queues queue)
 
 -- the heap whose slot got the first of a queue
 abbrev pub with_next : HeapParts → ℕ → ℕ → HeapParts
-with_next heap to queue = record heap {
-  slots = slice_set heap.slots to (place_or_nil (first_of (value_at heap.queues queue)));
-  queues = without_first heap.queues queue (value_at heap.queues queue);
-}
+with_next heap to queue = with_slot (without_next heap queue) to (place_or_nil (next_place heap queue))
 
 -- A slot gets the first of a queue, or becomes empty.
 pub next_stands : (heap : HeapParts) (store : Store) (to queue : ℕ) → PartsStandFor heap store → PartsStandFor (with_next heap to queue) (take_next store to queue)
 next_stands heap store to queue s =
     let found : Option (List ℕ) = value_at heap.queues queue in
     let queues_are = s.finalizers.queues_are in
-    let stored : value_at store.queues queue ≡ option_map (map s.name) found = ap (λ (qs : Table (List ℕ)). value_at qs queue) queues_are.named ∙ value-named s.name heap.queues queue in
+    let stored = stored-named queue s in
     let new : Store = take_next store to queue in
-    let next_is : next_of store queue ≡ option_map s.name (first_of found) = ap first_of stored ∙ first-is s.name found in
+    let next_is = next_named heap store queue s in
     let change : RootChange heap.setup.settings store new = next_change to queue s.sound in
     rooted_stands s refl change refl
     (subst (λ (b : Option ℕ). HoldsSlots (slice_set heap.slots to (place_or_nil (first_of found))) s.places s.name heap.setup.settings.roots (slice_set store.slots to b)) (sym next_is)
-    (got s (first_of found) (λ p e. queues_are.there p (first-queued heap.queues queue p found refl e))))
+    (got s (first_of found) (next_there heap store queue s)))
     (record {
       registered_are = s.finalizers.registered_are;
       chosen_are = s.finalizers.chosen_are;
@@ -105,6 +92,7 @@ next_stands heap store to queue s =
         named = ap₂ (λ (qs : Table (List ℕ)) (f : Option (List ℕ)). without_first qs queue f) queues_are.named stored ∙ sym (first-named s.name heap.queues queue found);
         there = λ p t. queues_are.there p (first-less heap.queues queue p found refl t);
       };
+      births_are = ap (λ (f : NamedFinals). less_final f queue) s.finalizers.births_are;
     }) s.links
   where
     got : (s : PartsStandFor heap store) (first : Option ℕ) → ((p : ℕ) → first ≡ Some p → IsTrue (is_in p s.places))

@@ -31,6 +31,7 @@ with_lists heap new = record heap {
   slots = new.slots;
   registered = new.registered;
   queues = new.queues;
+  finals = new.finals;
   links = new.links;
 }
 
@@ -38,7 +39,7 @@ with_lists heap new = record heap {
 pub rooted_stands : {heap new : HeapParts} {store after : Store} (s : PartsStandFor heap store) → new ≡ with_lists heap new
     → RootChange heap.setup.settings store after → after.pinned ≡ store.pinned
     → HoldsSlots new.slots s.places s.name heap.setup.settings.roots after.slots
-    → HoldsFinalizers new.registered heap.chosen new.queues s.places s.name after.registered store.chosen after.queues
+    → HoldsFinalizers new.finals heap.setup.settings.queues new.registered heap.chosen new.queues s.places s.name after.registered store.chosen after.queues
     → HoldsLinks new.links s.places s.name after.structs after.dead
     → PartsStandFor new after
 rooted_stands {heap = heap} {new = new} {store = store} {after = after} s only change pinned slots finalizers links =

@@ -79,6 +79,7 @@ started-parts settings types old_blocks ranges empty small page =
         registered_are = record { named = refl; there = λ p t. none p t };
         chosen_are = record { named = refl; there = λ p t. none p t };
         queues_are = record { named = refl; there = λ p t. none p t };
+        births_are = refl;
       };
       links = record { named = refl; there = λ n p e. absurd (let no : ⊥ = cc in no); queue = refl };
       homes = record { told = λ b at e. absurd (let no : ⊥ = cc in no); known = λ p at e. no-home p at e; reserved = λ p at e. no-home p at e };

@@ -15,6 +15,7 @@ use Rattle.store_model.specs.Structs.{Structs}
 use Rattle.old_space.specs.HasBlocks.{page_size, HasBlocks, greatest_small}
 use Rattle.old_space.specs.declared.Old.{Old}
 use Rattle.remember_cards.specs.Remembered.{Remembered, nothing_held}
+use Rattle.heap_parts.specs.NamedFinals.{NamedFinals, named_finals}
 
 -- what a heap has that was started; objects go by their places
 pub record HeapParts : Type 0 where
@@ -28,6 +29,7 @@ pub record HeapParts : Type 0 where
   pub registered : List (ℕ × ℕ)  -- objects and queues, in order of registration
   pub chosen : List (ℕ × ℕ)  -- what waits for its queue
   pub queues : Table (List ℕ)  -- the finalizer queues that are not empty
+  pub finals : NamedFinals  -- the same objects by their births
   pub links : Structs  -- the C structures, and the dead queue
   pub gray : List ℕ  -- what is still to be visited
   pub slots : List ℕ  -- the place of the object in each root slot, 0 where it is empty
@@ -54,6 +56,7 @@ started_parts settings types old_blocks = record {
   registered = [];
   chosen = [];
   queues = [];
+  finals = named_finals settings.queues [] [] [];
   links = record { structs = []; dead = [] };
   gray = [];
   slots = replicate settings.roots 0;

@@ -22,6 +22,7 @@ use Rattle.store_model.specs.MarkingOrder.{IsInOrder}
 use Rattle.old_space.specs.HasBlocks.{page_size, greatest_small}
 use Rattle.old_space.specs.declared.Old.{Old}
 use Rattle.remember_cards.specs.Remembered.{Remembered, held_places, is_held_of}
+use Rattle.heap_parts.specs.NamedFinals.{NamedFinals, named_finals}
 use Rattle.heap_parts.specs.Parts.{HeapParts, word_in, home_in}
 use Rattle.heap_parts.specs.Places.{young_places, old_places, AreAmong, AreWhole, OfFirsts, RiseBetween, is_weak_at}
 use Rattle.heap_parts.specs.Nursery.{HoldsNursery, IsUngapped}
@@ -77,12 +78,13 @@ pub record HoldsHomes (home : ℕ → Option ℕ) (places husks : List ℕ) (nam
   pub reserved : AreReservedForYoung home (young_places places)
   pub known : (p at : ℕ) → home p ≡ Some at → value_at homes (name p) ≡ Some at
 
--- registered, chosen and queued objects
-pub record HoldsFinalizers (registered chosen : List (ℕ × ℕ)) (queues : Table (List ℕ)) (places : List ℕ) (name : ℕ → ℕ)
+-- registered, chosen and queued objects, which the heap knows by their births too, and so many queues
+pub record HoldsFinalizers (finals : NamedFinals) (queue_count : ℕ) (registered chosen : List (ℕ × ℕ)) (queues : Table (List ℕ)) (places : List ℕ) (name : ℕ → ℕ)
     (stored_registered stored_chosen : List (ℕ × ℕ)) (stored_queues : Table (List ℕ)) : Type 0 where
   pub registered_are : HoldsEntries registered places name stored_registered
   pub chosen_are : HoldsEntries chosen places name stored_chosen
   pub queues_are : HoldsQueues queues places name stored_queues
+  pub births_are : finals ≡ named_finals queue_count stored_registered stored_chosen stored_queues
 
 -- the numbers of words
 pub record HoldsSums (unsettled old fresh limit : ℕ) (kept : List Object) (settled : List ℕ) (husks : List (ℕ × ℕ)) : Type 0 where
@@ -132,7 +134,7 @@ pub record PartsStandBy (order_of : OrderOf) (spare : List Extent) (heap : HeapP
   pub births : HoldsBirths places name store.settled heap.next
   pub slots : HoldsSlots heap.slots places name heap.setup.settings.roots store.slots
   pub pins : HoldsEntries heap.pins (young_places places) name store.pinned
-  pub finalizers : HoldsFinalizers heap.registered heap.chosen heap.queues places name store.registered store.chosen store.queues
+  pub finalizers : HoldsFinalizers heap.finals heap.setup.settings.queues heap.registered heap.chosen heap.queues places name store.registered store.chosen store.queues
   pub links : HoldsLinks heap.links places name store.structs store.dead
   pub homes : HoldsHomes (home_in heap) places husks name store.homes
   pub gray : AreAmong (old_places places) heap.gray

@@ -1,5 +1,5 @@
 -- What a heap tells of its objects: it is read from the words and the lists.
-use Rattle.std.specs.Prelude.{ℕ, ◌+◌, ◌==◌, Bool, false, if◌then◌else◌, List, ◌++◌, map, flat_map, Option, Some, None, is_some}
+use Rattle.std.specs.Prelude.{ℕ, ◌+◌, ◌==◌, Bool, false, if◌then◌else◌, Option, Some, None, is_some}
 use Rattle.type_table.specs.declared.info.Shape.{Shape}
 use Rattle.type_table.specs.declared.info.Shape.TheVariants.{IntArray, RefArray}
 use Rattle.type_table.specs.declared.info.TypeInfo.{TypeInfo}
@@ -8,11 +8,11 @@ use Rattle.object_header.specs.Words.{has_flag}
 use Rattle.object_header.specs.declared.flags.Flag.TheVariants.{Pinned}
 use Rattle.object_model.specs.declared.kind.Kind.{Kind}
 use Rattle.object_model.specs.ObjectWords.{info_at, layout_at}
-use Rattle.object_model.specs.Sets.{is_in}
 use Rattle.store_model.specs.Structs.{state_of, p_link_of}
 use Rattle.store_model.specs.Look.{Look}
 use Rattle.store_model.specs.Unbuilt.{Room}
 use Rattle.heap_parts.specs.Parts.{HeapParts, word_in, place_in}
+use Rattle.heap_parts.specs.Registers.{is_final}
 
 -- the shape of the object at a place, and how many whole numbers and references it has
 abbrev pub kind_from : Table TypeInfo → (ℕ → ℕ) → ℕ → Kind
@@ -43,10 +43,6 @@ room_told heap = record { unsettled = heap.unsettled; fresh = heap.fresh; counte
 abbrev pub if_there : ℕ → Bool → Bool
 if_there place told = if place == 0 then false else told
 
--- the places of the objects that are registered, chosen or queued
-abbrev pub finalizer_places : HeapParts → List ℕ
-finalizer_places heap = map (λ entry. entry.0) heap.registered ++ (map (λ entry. entry.0) heap.chosen ++ flat_map (λ entry. entry.1) heap.queues)
-
 -- whether the object at a place has a P link
 abbrev pub has_p_link_at : HeapParts → ℕ → Bool
 has_p_link_at heap place = is_some (p_link_of heap.links.structs place)
@@ -56,7 +52,7 @@ abbrev pub told : HeapParts → Look
 told heap = record {
   kind = λ root. kind_at heap.setup.types (word_in heap) (place_in heap root);
   is_pinned = λ root. if_there (place_in heap root) (has_flag (word_in heap (place_in heap root)) Pinned);
-  was_registered = λ root. if_there (place_in heap root) (is_in (place_in heap root) (finalizer_places heap));
+  was_registered = λ root. if_there (place_in heap root) (is_final heap (place_in heap root));
   has_p_link = λ root. if_there (place_in heap root) (has_p_link_at heap (place_in heap root));
   structure = λ number. state_of (value_at heap.links.structs number);
 }

@@ -4,6 +4,8 @@ ghost use Rattle.type_table.specs.Table.{value_at};
 ghost use Rattle.object_model.specs.SettingRanges.{AreInRange};
 ghost use Rattle.heap_parts.specs.Parts.{AreFresh};
 
+use crate::empty_parts::{lists, slots_and_pins, tables, words};
+use finalizer_order::Finals;
 use heap_space::Space;
 use mark_steps::Gray;
 use nursery_gaps::Nursery;
@@ -33,6 +35,8 @@ pub struct Parts {
     /// The items that the next minor collection must look at.
     pub remember: Remember,
     pub weaks: Weaks,
+    /// The objects with finalizers.
+    pub finals: Finals,
     pub links: Links,
     /// What is still to be visited in this marking.
     pub gray: Gray,
@@ -58,10 +62,11 @@ pub struct Parts {
 }
 
 impl Model for Parts {
-    ghost use Rattle.std.specs.Prelude.{[]};
     ghost use Rattle.std.specs.Coded.{codes};
     ghost use Rattle.heap_parts.specs.Code.{old_code, homes_code};
     ghost use Rattle.remember_cards.specs.Remembering.{remembered_by};
+    ghost use Rattle.finalizer_order.specs.Finalizers.{placed, placed_queues};
+    ghost use Rattle.heap_parts.specs.NamedFinals.{births_told};
     ghost use Rattle.heap_parts.specs.Parts.{HeapParts};
 
     ghost Value = { HeapParts };
@@ -76,9 +81,10 @@ impl Model for Parts {
       remembered = remembered_by p.remember;
       shadows = p.shadows;
       weaks = p.weaks;
-      registered = [];
-      chosen = [];
-      queues = [];
+      registered = placed p.finals.registered;
+      chosen = placed p.finals.chosen;
+      queues = placed_queues p.finals.queues;
+      finals = births_told p.finals;
       links = p.links;
       gray = p.gray;
       slots = p.slots.items;
@@ -100,19 +106,24 @@ impl Parts {
         requires { AreInRange settings.now }
         ensures { IfOk result (λ parts. AreFresh parts settings.now types) }
     {
+        let (space, nursery, old_blocks) = words(alloc, settings)?;
+        let (remember, weaks, finals) = lists(alloc, settings)?;
+        let (shadows, links, gray) = tables(alloc)?;
+        let (slots, pins) = slots_and_pins(alloc, settings)?;
         Ok(Parts {
             settings: *settings,
             types,
-            space: Space::new(alloc, settings.nursery, settings.arena * settings.page)?,
-            nursery: Nursery::new(alloc, settings.nursery, settings.pins)?,
-            old_blocks: Old::new(alloc, settings)?,
-            shadows: Shadows::new(alloc)?,
-            remember: Remember::new(alloc, settings.card)?,
-            weaks: Weaks::new(alloc)?,
-            links: Links::new(alloc)?,
-            gray: Gray::new(alloc)?,
-            slots: vec![in alloc; 0; settings.roots as usize]?,
-            pins: Vec::new(alloc),
+            space,
+            nursery,
+            old_blocks,
+            shadows,
+            remember,
+            weaks,
+            finals,
+            links,
+            gray,
+            slots,
+            pins,
             phase: Phase::Scanning,
             threshold: settings.minimum,
             next: 1,

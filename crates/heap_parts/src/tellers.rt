@@ -8,6 +8,7 @@ ghost use Rattle.object_model.specs.Setup.{young_words};
 ghost use Rattle.store_model.specs.Store.{husk_words as husk_words_of};
 ghost use Rattle.store_model.specs.Structs.{state_of};
 ghost use Rattle.heap_parts.specs.Parts.{word_in, place_in};
+ghost use Rattle.heap_parts.specs.Registers.{is_final};
 ghost use Rattle.heap_parts.specs.Told.{if_there, has_p_link_at};
 
 use crate::parts::Parts;
@@ -27,6 +28,17 @@ impl Parts {
         }
         let _whole = view(&self.space, &self.types, place);
         is_set(self.space.read(place), Flag::Pinned)
+    }
+
+    /// Whether a slot holds an object that is registered, chosen or queued.
+    pub fn was_registered(&self, root: u32) -> bool
+        requires { place_in self.now root ≢ 0 → HasObject self.now.memory self.now.setup.types (place_in self.now root) }
+        ensures { result ≡ if_there (place_in self.now root) (is_final self.now (place_in self.now root)) }
+    {
+        let Some(birth) = self.birth_of(self.place(root)) else {
+            return false;
+        };
+        self.finals.was_registered(birth)
     }
 
     /// Whether a slot holds an object with a P link.

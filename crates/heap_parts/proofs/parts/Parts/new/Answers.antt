@@ -1,31 +1,33 @@
-use Rattle.std.proofs.Common.{◌≡◌, ◌*◌, replicate, arith, refl, rules, of_calls}
-use Rattle.heap_space.specs.Memory.{Memory, fresh_memory}
-use Rattle.old_space.proofs.FreshLaws.{empty-fresh}
-use Rattle.remember_cards.specs.Remembering.{remembered_by}
+use Rattle.std.proofs.Common.{◌≡◌}
+use Rattle.finalizer_order.specs.Finalizers.{no_finalizers, placed, placed_queues}
+use Rattle.heap_parts.specs.NamedFinals.{births_told}
 use Rattle.heap_parts.specs.Parts.{started_parts}
 use Rattle.heap_parts.proofs.parts.Parts.new.Goals as goal
 
 pub returns : goal.returns
 returns c =
     let settings = c.args.settings.now in
-    let old_blocks = c.in_ok-new-3.field-0 in
-    let fresh : Memory = fresh_memory settings.nursery (settings.arena * settings.page) in
-    let slots : c.in_ok-vec.field-0.items ≡ replicate settings.roots 0 = search (rules, of_calls) in
+    let old_blocks = c.in_ok-space.old_blocks in
+    let finals : c.in_ok-remember.finals ≡ no_finalizers settings.queues = c.in_ok-remember.ensures.finals in
     record {
       old_blocks = old_blocks;
       are = λ i. record (started_parts settings c.args.types old_blocks) {
-        memory = c.in_ok-new.ensures i;
-        nursery = c.in_ok-new-2.ensures.made i;
-        shadows = c.in_ok-new-4.ensures i;
-        remembered = remembered_by (c.in_ok-new-5.ensures i);
-        weaks = c.in_ok-new-6.ensures i;
-        links = c.in_ok-new-7.ensures i;
-        gray = c.in_ok-new-8.ensures i;
-        slots = slots i;
-        pins = c.new-9.ensures.items i;
-        husk_list = c.new-10.ensures.items i;
+        memory = c.in_ok-space.ensures.space i;
+        nursery = c.in_ok-space.ensures.nursery i;
+        remembered = c.in_ok-remember.ensures.remember i;
+        shadows = c.in_ok-shadows.ensures.shadows i;
+        weaks = c.in_ok-remember.ensures.weaks i;
+        registered = placed (finals i).registered;
+        chosen = placed (finals i).chosen;
+        queues = placed_queues (finals i).queues;
+        finals = births_told (finals i);
+        links = c.in_ok-shadows.ensures.links i;
+        gray = c.in_ok-shadows.ensures.gray i;
+        slots = c.in_ok-slots.ensures.slots i;
+        pins = c.in_ok-slots.ensures.pins i;
+        husk_list = c.new.ensures.items i;
       };
-      empty = c.in_ok-new-3.ensures.empty fresh (empty-fresh settings fresh settings.nursery (settings.arena * settings.page) (grind (arith)) refl);
-      small = c.in_ok-new-3.ensures.small;
-      page = c.in_ok-new-3.ensures.page;
+      empty = c.in_ok-space.ensures.empty;
+      small = c.in_ok-space.ensures.small;
+      page = c.in_ok-space.ensures.page;
     }
