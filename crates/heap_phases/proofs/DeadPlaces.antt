@@ -1,5 +1,5 @@
--- What the code lists as dead is what is condemned, where nothing is saved for finalizers.
-use Rattle.std.proofs.Common.{◌≡◌, ℕ, ◌+◌, Bool, true, false, IsTrue, List, [], ◌∷◌, ◌++◌, map, append-nil, refl, sym, ap, ap₂, ◌∙◌, subst, inl, inr, arith}
+-- What the code lists as dead is what is condemned.
+use Rattle.std.proofs.Common.{◌≡◌, ℕ, ◌+◌, ◌⊎◌, Bool, true, false, IsTrue, List, [], ◌∷◌, ◌++◌, map, append-nil, refl, sym, ap, ap₂, ◌∙◌, subst, inl, inr, arith}
 use Rattle.std.specs.Prelude.{not, filter, ◌==◌, ◌&&◌, ◌%◌, if◌then◌else◌, sum_by}
 use Rattle.std.specs.List.Sorted.{IsPermutation}
 use Rattle.std.proofs.lemmas.Bool.{cases_Bool, ne_eqb}
@@ -13,7 +13,7 @@ use Rattle.type_table.specs.Table.{Table}
 use Rattle.heap_space.specs.Places.{word_at}
 use Rattle.heap_space.specs.Memory.{Memory}
 use Rattle.heap_space.specs.Extents.{Extent}
-use Rattle.object_header.specs.Words.{has_flag}
+use Rattle.object_header.specs.Words.{has_flag, with_flag}
 use Rattle.object_header.specs.declared.flags.Flag.TheVariants.{Visited, Shadow}
 use Rattle.size_pages.specs.Sweeping.{is_dead}
 use Rattle.object_model.specs.Sets.{is_in}
@@ -32,15 +32,16 @@ use Rattle.heap_parts.specs.StandsFor.{PartsStandFor}
 use Rattle.heap_parts.specs.Collects.{AreAllPinned}
 use Rattle.heap_parts.proofs.Filters.{filter_at}
 use Rattle.heap_parts.proofs.MinorNeeds.{settled_place}
-use Rattle.heap_parts.proofs.PlaceLaws.{young-is_in, old-is_in}
+use Rattle.heap_parts.proofs.PlaceLaws.{young-is_in, old-is_in, is_in-young, is_in-old}
 use Rattle.heap_parts.proofs.SweepNeeds.{shadow_lives}
 use Rattle.heap_phases.specs.Ending.{AreDead, AreDestroyed, AreHusks, places_in, is_dead_in, birth_in, is_destroyed, husk_of}
 use Rattle.heap_phases.proofs.DeadCalls.{passing_permuted}
-use Rattle.heap_phases.proofs.EndCalls.{marking_blocks}
+use Rattle.heap_phases.proofs.EndCalls.{MarksEnd, marking_blocks, dead_place}
+use Rattle.heap_phases.proofs.EndHeaders.{settled_marked}
+use Rattle.object_header.proofs.WordLaws.{type_of-with_flag}
 use Rattle.heap_phases.proofs.EndCode.{clears}
 use Rattle.heap_phases.proofs.EndLines.{SortsBirths}
 use Rattle.heap_phases.proofs.EndLists.{rise_filtered}
-use Rattle.heap_phases.proofs.EndMemory.{first_stays, words_end, shadow_stays}
 use Rattle.heap_phases.proofs.EndWords.{losing, losing_old}
 use Rattle.heap_phases.proofs.HuskTable.{same_table}
 use Rattle.heap_phases.proofs.PlacePaths.{white_flag}
@@ -56,9 +57,8 @@ filter-two f g (p ∷ ps) = elim (cases_Bool (f p)) [
   | inr e ↦ rw e (filter-two f g ps)
 ]
 
-module _ (heap : HeapParts) (store : Store) (s : PartsStandFor heap store) (pinned : AreAllPinned store) (marked : IsMarked store) (marking : heap.phase ≡ Marking)
-    (m : Memory) (changes : ChangesTargets heap.setup.types (kept_target heap.nursery.words (word_in heap)) heap.memory m heap.weaks)
-    (saved : ℕ → Bool) (none : (x : ℕ) → saved x ≡ false) (dead : List Extent) (listed : AreDead m (marking_blocks heap store s) dead) where
+module _ (heap : HeapParts) (store : Store) (s : PartsStandFor heap store) (marking : heap.phase ≡ Marking)
+    (m : Memory) (saved : ℕ → Bool) (marks : MarksEnd heap store s saved m) (dead : List Extent) (listed : AreDead m (marking_blocks heap store s) dead) where
   abbrev types : Table TypeInfo
   types = heap.setup.types
 
@@ -81,19 +81,32 @@ module _ (heap : HeapParts) (store : Store) (s : PartsStandFor heap store) (pinn
       let out : is_in (s.name p) store.settled ≡ false = settled_place heap store s p part.0 ∙ ap not part.1 in
       rw out refl
 
-  gone-is : (p : ℕ) → gone (s.name p) ≡ is_white store (s.name p)
-  gone-is p = ap (λ (b : Bool). is_white store (s.name p) && not b) (none (s.name p)) ∙ and-true (is_white store (s.name p))
-    where
-      and-true : (b : Bool) → (b && true) ≡ b
-      and-true true = refl
-      and-true false = refl
+  -- a first word is as it was, or carries the mark
+  pub first_kind : (p : ℕ) → IsTrue (is_in p s.places) → (word_at m.blocks p ≡ w p) ⊎ (word_at m.blocks p ≡ with_flag (w p) Visited)
+  first_kind p t = elim (cases_Bool (is_young p)) [
+    | inl e ↦ inl (marks.heads.young p (is_in-young s.places p t e))
+    | inr e ↦ elim (cases_Bool (gone (s.name p))) [
+      | inl lost ↦ inl (marks.heads.lost p (is_in-old s.places p t e) lost)
+      | inr stays ↦ inr (marks.heads.marked p (is_in-old s.places p t e) stays)
+    ]
+  ]
+
+  pub type_stays : (p : ℕ) → IsTrue (is_in p s.places) → word_at m.blocks p % 65536 ≡ w p % 65536
+  type_stays p t = elim (first_kind p t) [
+    | inl e ↦ ap (λ (k : ℕ). k % 65536) e
+    | inr e ↦ ap (λ (k : ℕ). k % 65536) e ∙ type_of-with_flag (w p) Visited
+  ]
 
   dead-is : (p : ℕ) → IsTrue (is_in p (old_places s.places)) → is_dead_in m (B p) ≡ gone (s.name p)
   dead-is p t =
-      let first : word_at m.blocks p ≡ w p = first_stays heap store s pinned marked marking m changes p (old-is_in s.places p t).0 in
-      let shadow : has_flag (w p) Shadow ≡ false = (s.headers.settled.each p t).not_shadow in
-      ap is_dead first ∙ (ap (λ (b : Bool). not (has_flag (w p) Visited) && not b) shadow ∙ (and-true (not (has_flag (w p) Visited))
-      ∙ (sym (white_flag heap store s pinned marked marking p t) ∙ sym (gone-is p))))
+      let part = old-is_in s.places p t in
+      let shadow : has_flag (word_at m.blocks p) Shadow ≡ false = elim (first_kind p part.0) [
+        | inl e ↦ ap (λ (k : ℕ). has_flag k Shadow) e ∙ (s.headers.settled.each p t).not_shadow
+        | inr e ↦ ap (λ (k : ℕ). has_flag k Shadow) e ∙ (settled_marked (w p) (s.headers.settled.each p t)).not_shadow
+      ] in
+      let tells : gone (s.name p) ≡ not (has_flag (word_at m.blocks p) Visited) =
+      dead_place heap store s saved m marking marks p part.0 ∙ ap (λ (b : Bool). not b && not (has_flag (word_at m.blocks p) Visited)) part.1 in
+      ap (λ (b : Bool). not (has_flag (word_at m.blocks p) Visited) && not b) shadow ∙ (and-true (not (has_flag (word_at m.blocks p) Visited)) ∙ sym tells)
     where
       and-true : (b : Bool) → (b && true) ≡ b
       and-true true = refl
@@ -105,7 +118,7 @@ module _ (heap : HeapParts) (store : Store) (s : PartsStandFor heap store) (pinn
       filter_at B (is_dead_in m) (λ p. gone (s.name p)) (old_places s.places) dead-is in
       let homes : filter (is_dead_in m) (reserved_blocks types w (home_in heap) (young_places s.places) ++ []) ≡ [] =
       filter-none (is_dead_in m) (reserved_blocks types w (home_in heap) (young_places s.places) ++ [])
-      (each-of-homes (λ x. is_dead_in m x ≡ false) types w (home_in heap) (young_places s.places) (λ a n t. ap is_dead (shadow_stays heap store s pinned marked marking m changes a t) ∙ shadow_lives heap store s a t)) in
+      (each-of-homes (λ x. is_dead_in m x ≡ false) types w (home_in heap) (young_places s.places) (λ a n t. ap is_dead (marks.heads.shadow a t) ∙ shadow_lives heap store s a t)) in
       filter-append (is_dead_in m) (map B (old_places s.places)) _ ∙ (ap₂ (λ (xs ys : List Extent). xs ++ ys) olds homes
       ∙ (append-nil (map B (filter (λ p. gone (s.name p)) (old_places s.places))) ∙ ap (map B) (losing_old (is_condemned store saved) s.name s.places young_stay)))
 
@@ -130,7 +143,7 @@ module _ (heap : HeapParts) (store : Store) (s : PartsStandFor heap store) (pinn
   birth-stays p t =
       let laid = laid_out types w p in
       let out : ((p + 1) == (layout_at types w p).ref_start) ≡ false = ne_eqb (p + 1) (layout_at types w p).ref_start (λ e. absurd (let no : ⊥ = omega (arith, e, laid.begins, laid.ordered) in no)) in
-      words_end heap store s pinned marked marking m changes p (p + 1) t (omega arith) (omega (arith, laid.header))
+      marks.words p (p + 1) t (omega arith) (omega (arith, laid.header))
       ∙ ap (λ (b : Bool). if b then 0 else w (p + 1)) (ap (λ (b : Bool). clears types w s.name (is_white store) p && b) out ∙ and-false (clears types w s.name (is_white store) p))
     where
       and-false : (b : Bool) → (b && false) ≡ false
@@ -147,7 +160,7 @@ module _ (heap : HeapParts) (store : Store) (s : PartsStandFor heap store) (pinn
     just =
         let some : IsPermutation (filter (is_destroyed types m) (map B lost)) (filter (is_destroyed types m) dead) = passing_permuted (is_destroyed types m) (map B lost) dead dead_blocks in
         let here : filter (is_destroyed types m) (map B lost) ≡ map B (filter destroys lost) =
-        filter_at B (is_destroyed types m) destroys lost (λ p t. ap (λ (i : TypeInfo). i.destructor) (info_at-same types (word_at m.blocks) w p (ap (λ (k : ℕ). k % 65536) (first_stays heap store s pinned marked marking m changes p (lost_part p t).0)))) in
+        filter_at B (is_destroyed types m) destroys lost (λ p t. ap (λ (i : TypeInfo). i.destructor) (info_at-same types (word_at m.blocks) w p (type_stays p (lost_part p t).0))) in
         let read : map (birth_in m) (map B (filter destroys lost)) ≡ map (λ p. w (p + 1)) (filter destroys lost) =
         map-map (birth_in m) B (filter destroys lost) ∙ map-same (λ p. word_at m.blocks (p + 1)) (λ p. w (p + 1)) (filter destroys lost) (λ p t. birth-stays p (lost_part p (filter-part destroys lost p t).0).0) in
         let told : IsPermutation (map (birth_in m) (filter (is_destroyed types m) (map B lost))) births =

@@ -25,6 +25,7 @@ use Rattle.store_model.specs.Reach.{Tells, objects_where}
 use Rattle.store_model.specs.Marking.{IsMarked, IsSaved, IsChosen, is_white, is_condemned, after_marking}
 use Rattle.store_model.specs.Sound.{AreLinksSound, IsPhaseSound}
 use Rattle.object_model.specs.ObjectWords.{words_at}
+use Rattle.heap_parts.specs.NamedFinals.{NamedFinals}
 use Rattle.heap_parts.specs.Parts.{HeapParts, word_in, home_in}
 use Rattle.heap_parts.specs.Places.{young_places, old_places, RiseBetween, AreAmong}
 use Rattle.heap_parts.specs.OldSpace.{husk_at}
@@ -34,7 +35,7 @@ use Rattle.heap_phases.proofs.EndLists.{rise_filtered, end_births, end_slots, en
 use Rattle.std.proofs.lemmas.Simd.{map-map}
 use Rattle.object_model.specs.Layout.{Layout}
 use Rattle.heap_parts.specs.Collects.{AreAllPinned}
-use Rattle.heap_phases.specs.EndOfMarking.{marked_parts}
+use Rattle.heap_phases.specs.EndOfMarking.{marked_parts, with_chosen_births}
 use Rattle.heap_parts.proofs.PlaceLaws.{placed_words, young-is_in, old-is_in}
 use Rattle.heap_parts.proofs.MinorNeeds.{settled_place}
 use Rattle.heap_parts.proofs.SameLayouts.{sum-same}
@@ -109,7 +110,7 @@ module _ (heap : HeapParts) (store : Store) (s : PartsStandFor heap store) (pinn
 
   abbrev pub after_parts : HeapParts
   after_parts = marked_parts heap memory old_blocks (λ p. is_condemned store saved (s.name p)) (λ p. chosen (s.name p))
-      (map (husk_at heap.setup.types (word_in heap)) (losing (is_condemned store saved) s.name s.places))
+      (map (husk_at heap.setup.types (word_in heap)) (losing (is_condemned store saved) s.name s.places)) (with_chosen_births heap.finals chosen)
 
   store-marking : store.phase ≡ Marking
   store-marking = s.counts.phase_is ∙ marking
@@ -261,6 +262,7 @@ module _ (heap : HeapParts) (store : Store) (s : PartsStandFor heap store) (pinn
           (entries_stay gone heap.chosen s.places s.name store.chosen (λ x t. roots-stay x (rooted-chosen x t)) s.finalizers.chosen_are)
           (end_entries gone chosen heap.registered s.places s.name store.registered (registered_stays settings store s.sound pinned marked saved tells) s.finalizers.registered_are);
       queues_are = end_queues gone heap.queues s.places s.name store.queues (λ x t. roots-stay x (rooted-queued x t)) s.finalizers.queues_are;
+      births_are = ap (λ (f : NamedFinals). with_chosen_births f chosen) s.finalizers.births_are;
     };
     links = end_links gone heap.links s.places s.name store.structs store.dead s.sound.links.rises s.links;
     homes = end_homes gone (home_in heap) s.places s.name store.homes young-stay (subst (λ (hs : List ℕ). HoldsHomes (home_in heap) s.places hs s.name store.homes) no-places s.homes);
@@ -299,7 +301,7 @@ pub end_of_marking : (heap : HeapParts) (store : Store) (s : PartsStandFor heap 
     → (saved : ℕ → Bool) (tells : Tells saved (IsSaved store)) (chosen : ℕ → Bool) → Tells chosen (IsChosen store)
     → (memory : Memory) (old_blocks : Old) → EndsMarking heap store s saved memory old_blocks
     → PartsStandFor (marked_parts heap memory old_blocks (λ p. is_condemned store saved (s.name p)) (λ p. chosen (s.name p))
-    (map (husk_at heap.setup.types (word_in heap)) (losing (is_condemned store saved) s.name s.places)))
+    (map (husk_at heap.setup.types (word_in heap)) (losing (is_condemned store saved) s.name s.places)) (with_chosen_births heap.finals chosen))
     (after_marking heap.setup.settings store saved chosen)
 end_of_marking heap store s pinned marking marked saved tells chosen tells_chosen memory old_blocks e =
     end_stands heap store s pinned marking marked saved tells chosen tells_chosen memory old_blocks e

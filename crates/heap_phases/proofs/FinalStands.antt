@@ -10,6 +10,7 @@ use Rattle.text_model.specs.declared.line.Phase.{Phase}
 use Rattle.text_model.specs.declared.line.Phase.TheVariants.{Scanning, Finalizing}
 use Rattle.store_model.specs.Store.{Store, old_words}
 use Rattle.store_model.specs.Sweeping.{queues_with, next_threshold, after_finalizing}
+use Rattle.heap_parts.specs.NamedFinals.{NamedFinals}
 use Rattle.heap_parts.specs.Parts.{HeapParts}
 use Rattle.heap_parts.specs.OldSpace.{AreUnitsSwept}
 use Rattle.heap_parts.specs.Order.{IsGrayOf}
@@ -18,12 +19,17 @@ use Rattle.heap_parts.specs.Lists.{named_entries, named_queues}
 use Rattle.heap_parts.specs.StandsFor.{PartsStandFor}
 use Rattle.store_model.proofs.FinalSound.{queued_before, final_sound}
 
+-- finalizers by their births, where what was chosen enters its queues
+abbrev pub queued_finals : NamedFinals → NamedFinals
+queued_finals finals = record finals { chosen = []; queues = queues_with finals.queues finals.chosen }
+
 -- the parts afterwards
 abbrev pub final_parts : HeapParts → HeapParts
 final_parts heap = record heap {
   phase = Scanning;
   chosen = [];
   queues = queues_with heap.queues heap.chosen;
+  finals = queued_finals heap.finals;
   threshold = next_threshold heap.setup.settings.minimum heap.old_words heap.threshold;
 }
 
@@ -90,6 +96,7 @@ final_stands heap store s finalizing =
           named = ap₂ (λ (qs : Table (List ℕ)) (es : List (ℕ × ℕ)). queues_with qs es) s.finalizers.queues_are.named s.finalizers.chosen_are.named ∙ queues-named s.name heap.chosen heap.queues;
           there = λ p t. elim (queued_before heap.chosen heap.queues p t) [ inl a ↦ s.finalizers.chosen_are.there p a | inr a ↦ s.finalizers.queues_are.there p a ];
         };
+        births_are = ap queued_finals s.finalizers.births_are;
       };
       links = s.links;
       homes = s.homes;

@@ -22,7 +22,7 @@ use Rattle.heap_parts.specs.OldSpace.{husk_at}
 use Rattle.heap_parts.specs.Lists.{named_entries}
 use Rattle.heap_parts.specs.StandsFor.{PartsStandFor}
 use Rattle.heap_parts.specs.Collects.{AreAllPinned, IsCollected}
-use Rattle.heap_phases.specs.EndOfMarking.{marked_parts}
+use Rattle.heap_phases.specs.EndOfMarking.{marked_parts, with_chosen_births}
 use Rattle.heap_phases.specs.Swept.{swept_parts}
 use Rattle.store_model.proofs.TestsExist.{reached_test, retained_test, saved_test}
 use Rattle.heap_phases.proofs.StartStands.{marking_parts, start_stands}
@@ -92,7 +92,8 @@ pub ends : (heap : HeapParts) (store : Store) (s : PartsStandFor heap store) →
     → EndsTo heap store lines (marked_parts heap memory old_blocks
     (λ p. is_condemned store (saved_test heap.setup.settings store s.sound).test (s.name p))
     (λ p. is_in (s.name p) (found_births store))
-    (map (husk_at heap.setup.types (word_in heap)) (losing (is_condemned store (saved_test heap.setup.settings store s.sound).test) s.name s.places)))
+    (map (husk_at heap.setup.types (word_in heap)) (losing (is_condemned store (saved_test heap.setup.settings store s.sound).test) s.name s.places))
+    (with_chosen_births heap.finals (λ x. is_in x (found_births store))))
 ends heap store s pinned marking marked lines mid memory old_blocks marks began told =
     let saved = saved_test heap.setup.settings store s.sound in
     record {

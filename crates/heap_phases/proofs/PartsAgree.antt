@@ -15,6 +15,7 @@ use Rattle.object_model.specs.Sets.{is_in}
 use Rattle.store_model.specs.Structs.{Structs, object_of}
 use Rattle.store_model.specs.Links.{cut_links, entry_after, link_end, link_ends, newly_dead}
 use Rattle.remember_cards.specs.Remembered.{Held, held_places, without_dead}
+use Rattle.heap_parts.specs.NamedFinals.{NamedFinals}
 use Rattle.heap_parts.specs.Parts.{HeapParts}
 use Rattle.store_model.proofs.StructLaws.{first-value, behind-first}
 use Rattle.heap_phases.specs.EndOfMarking.{marked_parts}
@@ -75,12 +76,12 @@ module _ (f g : ℕ → Bool) where
   links_same links rises agree = ap₂ (λ (structs : Table Struct) (ends : List LinkEnd). record { structs = structs; dead = links.dead ++ newly_dead ends })
       (structs-same links.structs rises agree) (ends_same links.structs rises agree)
 
-pub parts_agree : (heap : HeapParts) (memory : Memory) (old_blocks : Old) (dead other taken chosen : ℕ → Bool) (husks : Table ℕ)
+pub parts_agree : (heap : HeapParts) (memory : Memory) (old_blocks : Old) (dead other taken chosen : ℕ → Bool) (husks : Table ℕ) (finals : NamedFinals)
     → ((p : ℕ) → IsTrue (is_in p (held_places heap.remembered)) → dead p ≡ other p) → ((p : ℕ) → IsTrue (is_in p heap.weaks) → dead p ≡ other p)
     → ((p : ℕ) → IsTrue (is_in p (map (λ entry. entry.0) heap.registered)) → taken p ≡ chosen p)
     → KeysRise heap.links.structs → ((n p : ℕ) → option_and_then object_of (value_at heap.links.structs n) ≡ Some p → dead p ≡ other p)
-    → marked_parts heap memory old_blocks dead taken husks ≡ marked_parts heap memory old_blocks other chosen husks
-parts_agree heap memory old_blocks dead other taken chosen husks held weak registered rises linked =
+    → marked_parts heap memory old_blocks dead taken husks finals ≡ marked_parts heap memory old_blocks other chosen husks finals
+parts_agree heap memory old_blocks dead other taken chosen husks finals held weak registered rises linked =
     let one : filter (λ (h : Held). not (dead h.place)) heap.remembered.held ≡ filter (λ (h : Held). not (other h.place)) heap.remembered.held =
     filter-by (λ (h : Held). h.place) (λ p. not (dead p)) (λ p. not (other p)) heap.remembered.held (λ p t. ap not (held p t)) in
     let two = filter-agree (λ p. not (dead p)) (λ p. not (other p)) heap.weaks (λ p t. ap not (weak p t)) in
@@ -88,6 +89,6 @@ parts_agree heap memory old_blocks dead other taken chosen husks held weak regis
     filter-by (λ (e : ℕ × ℕ). e.0) (λ p. not (taken p)) (λ p. not (chosen p)) heap.registered (λ p t. ap not (registered p t)) in
     let four : filter (λ (e : ℕ × ℕ). taken e.0) heap.registered ≡ filter (λ (e : ℕ × ℕ). chosen e.0) heap.registered = filter-by (λ (e : ℕ × ℕ). e.0) taken chosen heap.registered registered in
     let five = links_same dead other heap.links rises linked in
-    ap (λ (hs : List Held). record (marked_parts heap memory old_blocks dead taken husks) { remembered = record heap.remembered { held = hs } }) one
-    ∙ (ap₂ (λ (ws : List ℕ) (ls : Structs). record (marked_parts heap memory old_blocks dead taken husks) { remembered = without_dead other heap.remembered; weaks = ws; links = ls }) two five
-    ∙ ap₂ (λ (rs cs : List (ℕ × ℕ)). record (marked_parts heap memory old_blocks other taken husks) { registered = rs; chosen = heap.chosen ++ cs }) three four)
+    ap (λ (hs : List Held). record (marked_parts heap memory old_blocks dead taken husks finals) { remembered = record heap.remembered { held = hs } }) one
+    ∙ (ap₂ (λ (ws : List ℕ) (ls : Structs). record (marked_parts heap memory old_blocks dead taken husks finals) { remembered = without_dead other heap.remembered; weaks = ws; links = ls }) two five
+    ∙ ap₂ (λ (rs cs : List (ℕ × ℕ)). record (marked_parts heap memory old_blocks other taken husks finals) { registered = rs; chosen = heap.chosen ++ cs }) three four)

@@ -20,6 +20,13 @@ passed {X = X} test xs i x d old now l e was out =
     was ∙ ap (λ (ys : List X). old ++ ys) (sym (filter_more test xs i d l ∙ (ap (λ (y : X). filter test (take i xs) ++ cond (test y) (y ∷ []) []) e
     ∙ (ap (λ (b : Bool). filter test (take i xs) ++ cond b (x ∷ []) []) out ∙ append-nil (filter test (take i xs))))))
 
+-- what is read of each is appended
+pub read_each : {X Y : Type 0} (f : X → Y) (xs : List X) (i : ℕ) (d : X) (old now new : List Y) → i < length xs
+    → now ≡ old ++ map f (take i xs) → new ≡ now ++ f (get_or xs i d) ∷ [] → new ≡ old ++ map f (take (i + 1) xs)
+read_each {X = X} {Y = Y} f xs i d old now new l was more =
+    more ∙ (ap (λ (ys : List Y). ys ++ f (get_or xs i d) ∷ []) was ∙ (append_assoc old (map f (take i xs)) (f (get_or xs i d) ∷ [])
+    ∙ ap (λ (ys : List Y). old ++ ys) (sym (ap (map f) (take_more xs i d l) ∙ map-append f (take i xs) (get_or xs i d ∷ [])))))
+
 pub is_old : (x : ℕ) → 4294967296 ≤ x → not (is_young x) ≡ true
 is_old x l = grind (arith, nat_tests)
 

@@ -9,11 +9,11 @@ use Rattle.mark_steps.specs.declared.MarkEnd.TheVariants.{Budget, Empty}
 use Rattle.text_model.specs.declared.line.Phase.TheVariants.{Marking}
 use Rattle.heap_parts.specs.Parts.{HeapParts, word_in}
 use Rattle.heap_parts.specs.Places.{AreAmong}
-use Rattle.heap_phases.specs.Steps.{CanStep, ArePinsYoung}
+use Rattle.heap_phases.specs.Steps.{CanStep, CanQueue}
 use Rattle.heap_phases.specs.Budget.{CanMark, MarksPlaces, VisitsTwice, VisitsWithin, IsFew, words_of_places, births_of, is_budget}
 use Rattle.heap_phases.specs.Visiting.{with_gray, old_roots}
 use Rattle.heap_phases.proofs.MarkCalls.{can_mark}
-use Rattle.heap_phases.proofs.StartCalls.{pins_young}
+use Rattle.heap_phases.proofs.StartCalls.{can_queue, none_chosen_marking}
 use Rattle.heap_phases.proofs.MarkingSteps.{take-among}
 use Rattle.heap_phases.proofs.MarksAgain.{first_visits, queued_at, words_again, births_again, second_visits}
 
@@ -38,8 +38,8 @@ module _ (heap : HeapParts) (can : CanStep heap) (marking : heap.phase ≡ Marki
   queued_is = ap (λ (gs : List ℕ). with_gray mid (gs ++ old_roots mid)) f.ends.0
 
   -- the roots may be queued, and then visited
-  pub may_queue : ArePinsYoung mid
-  may_queue = pins_young mid _ (first_visits heap can.store can.collected marking f.places mid f.visits f.ends.0).at.stands
+  pub may_queue : CanQueue mid
+  may_queue = can_queue mid _ (first_visits heap can.store can.collected marking f.places mid f.visits f.ends.0).at.stands (none_chosen_marking heap can.store can.collected.stands marking)
 
   pub may_mark : CanMark (with_gray mid (mid.gray ++ old_roots mid))
   may_mark = subst CanMark (sym queued_is) (can_mark queued _ (queued_at heap can.store can.collected marking f.places mid f.visits f.ends.0).stands)

@@ -1,5 +1,5 @@
 -- The end of marking, a part at a time.
-use Rattle.std.specs.Prelude.{◌≡◌, ℕ, Bool, ◌+◌, IsTrue, List, [], ◌++◌, map, filter, not}
+use Rattle.std.specs.Prelude.{◌≡◌, ℕ, Bool, ◌+◌, ◌↔◌, IsTrue, List, [], ◌++◌, map, filter, not}
 use Rattle.std.specs.List.Sorted.{IsPermutation, IsNonDecreasing, IsNonDecreasingBy}
 use Rattle.type_table.specs.declared.info.TypeInfo.{TypeInfo}
 use Rattle.type_table.specs.Table.{Table}
@@ -13,12 +13,15 @@ use Rattle.old_space.specs.HasBlocks.{HasBlocks, KeepsSizes}
 use Rattle.object_model.specs.Sets.{is_in}
 use Rattle.object_model.specs.ObjectWords.{info_at}
 use Rattle.text_model.specs.declared.line.Line.{Line}
-use Rattle.text_model.specs.declared.line.Line.TheVariants.{Cleared, LinkCut}
+use Rattle.text_model.specs.declared.line.Line.TheVariants.{Cleared, Kept, LinkCut, Queued}
 use Rattle.text_model.specs.declared.line.Phase.TheVariants.{Marking, Sweeping}
 use Rattle.store_model.specs.Store.{Store}
 use Rattle.store_model.specs.Links.{cut_links, link_ends}
 use Rattle.store_model.specs.Marking.{IsMarked, EndOfMarking}
 use Rattle.remember_cards.specs.Remembered.{without_dead}
+use Rattle.finalizer_order.specs.declared.entry.Entry.{Entry}
+use Rattle.finalizer_order.specs.Finalizers.{placed}
+use Rattle.finalizer_order.specs.Choosing.{CanChoose, IsChosen, Keeps}
 use Rattle.weak_lists.specs.Cleared.{TellsInOrder, births_losing}
 use Rattle.weak_lists.specs.Targets.{ChangesTargets, is_unvisited, kept_target}
 use Rattle.heap_parts.specs.Parts.{HeapParts, word_in}
@@ -117,3 +120,40 @@ pub record BecomesHusks (old new : HeapParts) (blocks : List Extent) : Type 0 wh
 -- each block is that of a whole object
 abbrev pub HoldObjects : Memory → Table TypeInfo → List Extent → Type 0
 HoldObjects m types blocks = Each (λ x. HasObject m types x.0) blocks
+
+-- the line of an object that enters a queue
+abbrev pub queued_line : Memory → ℕ × ℕ → Line
+queued_line m entry = Queued (word_at m.blocks (entry.0 + 1)) entry.1
+
+-- the places of the registered objects
+abbrev pub registered_places : HeapParts → List ℕ
+registered_places heap = map (λ entry. entry.0) heap.registered
+
+-- the registered objects, and what they lead to, are whole, and no pass over finalizers has marked them
+abbrev pub CanChooseIn : HeapParts → Type 0
+CanChooseIn heap = CanChoose heap.memory heap.setup.types heap.nursery.words (registered_places heap)
+
+-- an entry by its birth
+abbrev pub named_entry : Entry → ℕ × ℕ
+named_entry entry = (entry.birth, entry.queue)
+
+-- The right ones of the dying objects are chosen, and what dying objects lead to is kept and told.
+pub record ChoosesFinals (old new : HeapParts) (before after : List Line) : Type 0 where
+  pub taken : ℕ → Bool
+  pub tells : (x : ℕ) → IsTrue (taken x) ↔ IsChosen old.setup.types old.nursery.words (word_in old) (registered_places old) x
+  pub births : List ℕ
+  pub keeps : Keeps old.setup.types old.nursery.words (registered_places old) old.memory new.memory [] births
+  pub lines : after ≡ before ++ map (λ b. Kept b) births
+  pub entries : List Entry
+  pub placed_are : old.registered ≡ placed entries
+  pub named_are : old.finals.registered ≡ map named_entry entries
+  pub finals : new.finals ≡ record old.finals {
+    registered = map named_entry (filter (λ entry. not (taken entry.place)) entries);
+    chosen = old.finals.chosen ++ map named_entry (filter (λ entry. taken entry.place) entries);
+  }
+  pub rest : new ≡ record old {
+    memory = new.memory;
+    registered = filter (λ entry. not (taken entry.0)) old.registered;
+    chosen = old.chosen ++ filter (λ entry. taken entry.0) old.registered;
+    finals = new.finals;
+  }

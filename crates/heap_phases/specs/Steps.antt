@@ -16,6 +16,7 @@ pub record CountsHusks (old new : HeapParts) (end : StepEnd) : Type 0 where
   pub husks : husk_words new.husk_list + end.freed_words ≡ husk_words old.husk_list + end.husk_words
   pub old_words : new.old_words + end.freed_words ≡ old.old_words
 
--- no pinned object lies outside the nursery
-pub record ArePinsYoung (heap : HeapParts) : Type 0 where
-  pub none : old_places (pinned_places heap) ≡ []
+-- the roots may be queued: no pinned object lies outside the nursery, and none was chosen for its finalizer
+pub record CanQueue (heap : HeapParts) : Type 0 where
+  pub pins : old_places (pinned_places heap) ≡ []
+  pub chosen : heap.chosen ≡ []

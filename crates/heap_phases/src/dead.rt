@@ -103,7 +103,7 @@ fn keep_destroyed(
 }
 
 /// The birth of the object at a place.
-fn birth_at(space: &Space, types: &TypeTable, place: u64) -> u64
+pub(crate) fn birth_at(space: &Space, types: &TypeTable, place: u64) -> u64
     requires { HasObject space.now types.now place }
     ensures { result ≡ word_at space.now.blocks (place + 1) }
 {

@@ -4,11 +4,11 @@ ghost use Rattle.std.specs.Prelude.{◌≡◌, ◌++◌, OnOk, IfOk, IsSorted};
 ghost use Rattle.std.specs.List.Sorted.{IsNonDecreasing};
 ghost use Rattle.std.specs.Ordering.{nat_cmp};
 ghost use Rattle.old_space.specs.Calls.{NoneWaits};
-ghost use Rattle.heap_phases.specs.Ending.{CanEnd, EndsMajor, ClearsWeaks, BecomesHusks, HoldObjects, without_places, cut_lines};
+ghost use Rattle.heap_phases.specs.Ending.{CanEnd, EndsMajor, ClearsWeaks, CanChooseIn, ChoosesFinals, BecomesHusks, HoldObjects, without_places, cut_lines};
 ghost use Rattle.heap_phases.specs.Steps.{CountsHusks};
 
 use crate::dead::{list_dead, list_destroyed, list_husks, list_places, words_of};
-use crate::telling::{tell_cleared, tell_destroyed, tell_ends};
+use crate::telling::{tell_cleared, tell_destroyed, tell_ends, tell_kept};
 use crate::{Phases, StepEnd};
 use heap_parts::Parts;
 use std::alloc::AllocError;
@@ -27,6 +27,7 @@ impl Phases {
         ensures counts { IfOk result (λ end. CountsHusks parts.old parts.new end) }
     {
         clear_targets(parts, &mut self.births, events)?;
+        choose(parts, &mut self.births, events)?;
         list_dead(
             &parts.old_blocks,
             &parts.space,
@@ -59,6 +60,23 @@ fn clear_targets(
         .weaks
         .after_marking(&mut parts.space, &parts.types, &parts.nursery, births)?;
     tell_cleared(events, births)?;
+    Ok(())
+}
+
+/// Chooses among the dying objects with finalizers, keeps what they reach, and tells it.
+fn choose(
+    parts: &mut Parts,
+    births: &mut Vec<u64>,
+    events: &mut Vec<Line>,
+) -> Result<(), AllocError>
+    requires { CanChooseIn parts.old }
+    ensures { OnOk result (ChoosesFinals parts.old parts.new events.old.items events.new.items) }
+{
+    births.clear();
+    parts
+        .finals
+        .choose(&mut parts.space, &parts.types, &parts.nursery, births)?;
+    tell_kept(events, births)?;
     Ok(())
 }
 

@@ -3,7 +3,7 @@ ghost use Rattle.std.specs.Prelude.{◌≡◌, ◌++◌, OnOk, IfOk, not, filter
 ghost use Rattle.text_model.specs.declared.line.Phase.TheVariants.{Scanning};
 ghost use Rattle.heap_parts.specs.Places.{is_young};
 ghost use Rattle.heap_parts.specs.Collects.{StepsMajor};
-ghost use Rattle.heap_phases.specs.Steps.{CanStep, CountsHusks, ArePinsYoung};
+ghost use Rattle.heap_phases.specs.Steps.{CanStep, CountsHusks, CanQueue};
 ghost use Rattle.heap_phases.specs.Visiting.{old_roots, with_gray};
 
 use crate::StepEnd;
@@ -41,13 +41,15 @@ pub(crate) fn start(
 /// Queues the objects of the roots that lie outside the nursery: those of slots by number, those that wait for a
 /// finalizer or are queued for one, and those that P links keep, by structure. Pinned objects lie in the nursery.
 pub(crate) fn queue_roots(parts: &mut Parts, places: &mut Vec<u64>) -> Result<(), AllocError>
-    requires { ArePinsYoung parts.old }
+    requires { CanQueue parts.old }
     ensures { OnOk result (parts.new ≡ with_gray parts.old (parts.old.gray ++ old_roots parts.old)) }
 {
     push_old(&mut parts.gray, &parts.slots)?;
     places.clear();
+    parts.finals.waiting_places(places)?;
     parts.links.forced(places)?;
-    push_old(&mut parts.gray, places)
+    push_old(&mut parts.gray, places)?;
+    Ok(())
 }
 
 /// Queues those of the places that lie outside the nursery, in their order.

@@ -1,6 +1,6 @@
 //! The lines of a step.
 ghost use Rattle.std.specs.Prelude.{◌≡◌, ◌++◌, ◌∷◌, [], map, OnOk, if◌then◌else◌};
-ghost use Rattle.text_model.specs.declared.line.Line.TheVariants.{Stepped, Visited, Cleared, Destroyed, LinkCut, Freed};
+ghost use Rattle.text_model.specs.declared.line.Line.TheVariants.{Stepped, Visited, Cleared, Kept, Destroyed, LinkCut, Freed};
 ghost use Rattle.text_model.specs.declared.line.Phase.TheVariants.{Marking, Sweeping};
 
 use std::alloc::AllocError;
@@ -39,6 +39,13 @@ pub(crate) fn tell_cleared(events: &mut Vec<Line>, births: &[u64]) -> Result<(),
     ensures { OnOk result (events.new.items ≡ events.old.items ++ map (λ b. Cleared b) births.now) }
 {
     events.extend(births.iter().map(|b| Line::Cleared { birth: *b }))
+}
+
+/// Tells objects that are kept for finalizers.
+pub(crate) fn tell_kept(events: &mut Vec<Line>, births: &[u64]) -> Result<(), AllocError>
+    ensures { OnOk result (events.new.items ≡ events.old.items ++ map (λ b. Kept b) births.now) }
+{
+    events.extend(births.iter().map(|b| Line::Kept { birth: *b }))
 }
 
 /// Tells objects whose type has a destructor.
