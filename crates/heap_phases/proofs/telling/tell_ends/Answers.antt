@@ -1,0 +1,9 @@
+use Rattle.std.proofs.Common.{rules, of_calls}
+use Rattle.std.proofs.lemmas.Iterator.{YieldsList-from_slice, YieldsList-from_map}
+use Rattle.std.proofs.lemmas.Iterator.Adapters.{items_from_extend}
+use Rattle.text_model.specs.declared.line.Line.TheVariants.{LinkCut}
+use Rattle.heap_phases.proofs.telling.tell_ends.Goals as goal
+
+pub returns : goal.returns
+returns c =
+    let h = items_from_extend c.extend.result c.extend.ensures.ran (YieldsList-from_map _ (λ b. LinkCut b) (YieldsList-from_slice c.args.ends.now cc) (cc) (λ x r q k. search (rules, of_calls))) in search rules
