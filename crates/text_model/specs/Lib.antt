@@ -8,3 +8,5 @@ pub mod ItemLine
 pub mod Script
 pub mod Text
 pub mod Generated
+pub mod Binary
+pub mod BinaryReading
