@@ -8,9 +8,12 @@ use Rattle.text_model.specs.declared.item.Item.{Item}
 use Rattle.text_model.specs.declared.item.Item.TheVariants.{Setting, TypeDef}
 use Rattle.text_model.specs.declared.item.BadLine.{BadLine}
 use Rattle.text_model.specs.declared.item.BadLine.TheVariants.{Syntax}
+use Rattle.text_model.specs.declared.item.Reason.{Reason}
+use Rattle.text_model.specs.declared.item.Reason.TheVariants as reason
 use Rattle.text_model.specs.Numbers.{◌>>=◌}
 use Rattle.text_model.specs.CommandGrammar.{in_range}
 use Rattle.text_model.specs.Grammar.{type_in_range, as_item}
+use Rattle.text_model.specs.Script.{bad_reason}
 
 -- A group below a number: a 0 in front of it would be a longer spelling, and both together have at most 64 bits.
 abbrev pub with_low : ℕ → ℕ × List ℕ → Result (ℕ × List ℕ) BadLine
@@ -37,41 +40,69 @@ numbers_at (suc n) bytes = do
 abbrev pub truth : ℕ → Result Bool BadLine
 truth n = if n == 0 then Ok false else if n == 1 then Ok true else Err Syntax
 
+-- so many numbers and no other
+abbrev pub none_of : List ℕ → Result (Unit {0}) BadLine
+none_of [] = Ok tt
+none_of (a ∷ numbers) = Err Syntax
+
+abbrev pub one_of : List ℕ → Result ℕ BadLine
+one_of (a ∷ []) = Ok a
+one_of numbers = Err Syntax
+
+abbrev pub two_of : List ℕ → Result (ℕ × ℕ) BadLine
+two_of (a ∷ b ∷ []) = Ok (a, b)
+two_of numbers = Err Syntax
+
+abbrev pub three_of : List ℕ → Result (ℕ × ℕ × ℕ) BadLine
+three_of (a ∷ b ∷ c ∷ []) = Ok (a, b, c)
+three_of numbers = Err Syntax
+
+abbrev pub four_of : List ℕ → Result (ℕ × ℕ × ℕ × ℕ) BadLine
+four_of (a ∷ b ∷ c ∷ d ∷ []) = Ok (a, b, c, d)
+four_of numbers = Err Syntax
+
+abbrev pub five_of : List ℕ → Result (ℕ × ℕ × ℕ × ℕ × ℕ) BadLine
+five_of (a ∷ b ∷ c ∷ d ∷ e ∷ []) = Ok (a, b, c, d, e)
+five_of numbers = Err Syntax
+
 abbrev pub bare : Command → List ℕ → Result Command BadLine
-bare command [] = in_range command
-bare command numbers = Err Syntax
+bare command numbers = do
+  end ← none_of numbers
+  in_range command
 
 abbrev pub of_one : (ℕ → Command) → List ℕ → Result Command BadLine
-of_one command (a ∷ []) = in_range (command a)
-of_one command numbers = Err Syntax
+of_one command numbers = do
+  a ← one_of numbers
+  in_range (command a)
 
 abbrev pub of_two : (ℕ → ℕ → Command) → List ℕ → Result Command BadLine
-of_two command (a ∷ b ∷ []) = in_range (command a b)
-of_two command numbers = Err Syntax
+of_two command numbers = do
+  n ← two_of numbers
+  in_range (command n.0 n.1)
 
 abbrev pub of_three : (ℕ → ℕ → ℕ → Command) → List ℕ → Result Command BadLine
-of_three command (a ∷ b ∷ c ∷ []) = in_range (command a b c)
-of_three command numbers = Err Syntax
-
-abbrev pub of_five : (ℕ → ℕ → ℕ → ℕ → ℕ → Result Command BadLine) → List ℕ → Result Command BadLine
-of_five command (a ∷ b ∷ c ∷ d ∷ e ∷ []) = command a b c d e
-of_five command numbers = Err Syntax
+of_three command numbers = do
+  n ← three_of numbers
+  in_range (command n.0 n.1 n.2)
 
 -- `copyrefs R I S J M`
-abbrev pub copy_of : ℕ → ℕ → ℕ → ℕ → ℕ → Result Command BadLine
-copy_of root item from from_item count = in_range (CopyRefs root item from from_item count)
+unfoldable pub copy_of : List ℕ → Result Command BadLine
+copy_of numbers = do
+  n ← five_of numbers
+  in_range (CopyRefs n.0 n.1 n.2 n.3 n.4)
 
 -- `plink C R K N` and `olink C R K N`
-abbrev pub link_of : ℕ → ℕ → ℕ → ℕ → ℕ → Result Command BadLine
-link_of p number root light own = do
-  p ← truth p
-  light ← truth light
-  in_range (MakeLink p number root light own)
+unfoldable pub link_of : List ℕ → Result Command BadLine
+link_of numbers = do
+  n ← five_of numbers
+  p ← truth n.0
+  light ← truth n.3
+  in_range (MakeLink p n.1 n.2 light n.4)
 
 -- commands on C structures and on the collector
 unfoldable pub structure_with : ℕ → List ℕ → Result Command BadLine
 structure_with tag numbers =
-    if tag == 35 then of_five link_of numbers else
+    if tag == 35 then link_of numbers else
     if tag == 36 then of_one Inc numbers else
     if tag == 37 then of_one Dec numbers else
     if tag == 38 then of_one Count numbers else
@@ -110,13 +141,14 @@ command_with tag numbers =
     if tag == 20 then of_two Get numbers else
     if tag == 21 then of_three Link numbers else
     if tag == 22 then of_three Load numbers else
-    if tag == 23 then of_five copy_of numbers else
+    if tag == 23 then copy_of numbers else
     slot_with tag numbers
 
 -- the setting of a name from 0 to 12
-abbrev pub setting_by : List ℕ → Result Item BadLine
-setting_by (name ∷ value ∷ []) = if nat_lt 12 name then Err Syntax else Ok (Setting name value)
-setting_by numbers = Err Syntax
+unfoldable pub setting_by : List ℕ → Result Item BadLine
+setting_by numbers = do
+  n ← two_of numbers
+  if nat_lt 12 n.0 then Err Syntax else Ok (Setting n.0 n.1)
 
 -- a type, whose destructor is told by a number
 abbrev pub type_by : ℕ → Shape → ℕ → Result Item BadLine
@@ -125,16 +157,19 @@ type_by id shape destructor = do
   type_in_range id (record { shape = shape; destructor = destructor })
 
 abbrev pub fixed_by : List ℕ → Result Item BadLine
-fixed_by (id ∷ ints ∷ refs ∷ destructor ∷ []) = type_by id (Fixed ints refs) destructor
-fixed_by numbers = Err Syntax
+fixed_by numbers = do
+  n ← four_of numbers
+  type_by n.0 (Fixed n.1 n.2) n.3
 
 abbrev pub array_by : Shape → List ℕ → Result Item BadLine
-array_by shape (id ∷ destructor ∷ []) = type_by id shape destructor
-array_by shape numbers = Err Syntax
+array_by shape numbers = do
+  n ← two_of numbers
+  type_by n.0 shape n.1
 
 abbrev pub weak_by : List ℕ → Result Item BadLine
-weak_by (id ∷ []) = type_in_range id (record { shape = Weak; destructor = false })
-weak_by numbers = Err Syntax
+weak_by numbers = do
+  id ← one_of numbers
+  type_in_range id (record { shape = Weak; destructor = false })
 
 -- the item of a tag and its numbers
 unfoldable pub item_with : ℕ → List ℕ → Result Item BadLine
@@ -178,3 +213,15 @@ body_at tag bytes = do
 abbrev pub record_at : List ℕ → Result (Item × List ℕ) BadLine
 record_at [] = Err Syntax
 record_at (tag ∷ bytes) = body_at tag bytes
+
+abbrev pub as_unit : Result (Item × List ℕ) BadLine → Result (Option Item × List ℕ) Reason
+as_unit (Ok read) = Ok (Some read.0, read.1)
+as_unit (Err bad) = Err (bad_reason bad)
+
+-- What unit k of a binary script says, and the bytes behind it. The end says no item.
+abbrev pub unit_at : ℕ → List ℕ → Result (Option Item × List ℕ) Reason
+unit_at k [] = Err reason.Syntax
+unit_at k (tag ∷ bytes) =
+    if tag == 0 then Ok (None, bytes) else
+    if nat_lt 16000000 k then Err reason.TooManyLines else
+    as_unit (body_at tag bytes)
