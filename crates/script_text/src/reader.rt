@@ -87,7 +87,7 @@ impl LineReader {
 
     /// A reader of what is ahead of the bytes, as text. It allocates nothing.
     pub fn over(bytes: Bytes) -> LineReader
-        ensures { result ≡ record { held = bytes.entry; count = 0; ended = false } }
+        ensures { result ≡ record { held = bytes; count = 0; ended = false } }
     {
         LineReader {
             piece: bytes,

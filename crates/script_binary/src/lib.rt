@@ -1,0 +1,10 @@
+//! The binary form of scripts: items written as records, and records read one after another from a file. A record is a tag
+//! of one byte and numbers in groups of seven bits, and each item that is not blank has just one. (The form is this project's own.)
+#![tactic(auto)]
+
+mod end;
+mod fields;
+mod number;
+
+pub use end::BinEnd;
+pub use text_model::{Command, Item};
