@@ -1,8 +1,27 @@
 -- The numbers of a record, as its reader holds them.
 use Rattle.std.specs.Prelude.{ℕ, List, take, Result, Ok, Err}
+use Rattle.text_model.specs.declared.item.BadLine.{BadLine}
+use Rattle.text_model.specs.Range.{is_above_ids}
+use Rattle.text_model.specs.Numbers.{◌>>=◌}
+use Rattle.text_model.specs.BinaryReading.{one_of, two_of}
+use Rattle.script_text.specs.Words.{unless_above}
 use Rattle.script_binary.specs.declared.end.BinEnd.{BinEnd}
 
 -- the numbers that were read into the front of an array
 abbrev pub numbers_read : ℕ → Result (List ℕ) BinEnd → Result (List ℕ) BinEnd
 numbers_read count (Ok fields) = Ok (take count fields)
 numbers_read count (Err end) = Err end
+
+-- one slot or structure
+abbrev pub one_slot : List ℕ → Result ℕ BadLine
+one_slot numbers = do
+  slot ← one_of numbers
+  unless_above (is_above_ids slot) slot
+
+-- two slots, queues or structures
+abbrev pub two_slots : List ℕ → Result (ℕ × ℕ) BadLine
+two_slots numbers = do
+  slots ← two_of numbers
+  a ← unless_above (is_above_ids slots.0) slots.0
+  b ← unless_above (is_above_ids slots.1) slots.1
+  Ok (a, b)

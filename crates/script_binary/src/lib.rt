@@ -2,9 +2,12 @@
 //! of one byte and numbers in groups of seven bits, and each item that is not blank has just one. (The form is this project's own.)
 #![tactic(auto)]
 
+mod commands;
 mod end;
 mod fields;
+mod items;
 mod number;
+mod numbers;
 
 pub use end::BinEnd;
 pub use text_model::{Command, Item};
