@@ -1,2 +1,4 @@
 pub mod NumberLaws
+pub mod NumbersLaws
 pub mod Parts
+pub mod Spelling

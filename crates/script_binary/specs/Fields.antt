@@ -1,8 +1,9 @@
 -- The numbers of a record, as its reader holds them.
-use Rattle.std.specs.Prelude.{ℕ, List, take, Result, Ok, Err}
+use Rattle.std.specs.Prelude.{ℕ, ◌<◌, ◌^◌, All, List, take, Result, Ok, Err}
 use Rattle.text_model.specs.declared.item.BadLine.{BadLine}
 use Rattle.text_model.specs.Range.{is_above_ids}
 use Rattle.text_model.specs.Numbers.{◌>>=◌}
+use Rattle.text_model.specs.Binary.{Fields}
 use Rattle.text_model.specs.BinaryReading.{one_of, two_of}
 use Rattle.script_text.specs.Words.{unless_above}
 use Rattle.script_binary.specs.declared.end.BinEnd.{BinEnd}
@@ -25,3 +26,7 @@ two_slots numbers = do
   a ← unless_above (is_above_ids slots.0) slots.0
   b ← unless_above (is_above_ids slots.1) slots.1
   Ok (a, b)
+
+-- each number of a record has at most 64 bits
+abbrev pub AreWords : Fields → Type 0
+AreWords of = All (λ n. n < 2 ^ 64) of.numbers

@@ -1,5 +1,5 @@
 //! The numbers of a record, behind its tag.
-ghost use Rattle.std.specs.Prelude.{◌≡◌, ◌≤◌, take};
+ghost use Rattle.std.specs.Prelude.{◌≡◌, ◌≤◌, slice_get};
 ghost use Rattle.std.specs.Io.KnownBytes.{prepend_known};
 ghost use Rattle.text_model.specs.Binary.{numbers_bytes};
 ghost use Rattle.text_model.specs.BinaryReading.{count_of, numbers_at};
@@ -30,10 +30,17 @@ pub(crate) fn field_count(tag: u8) -> Option<usize>
     if tag == 0 {
         None
     } else if tag < 16 {
-        SETUP_FIELDS.get(usize::from(tag - 1)).copied()
+        count_at(&SETUP_FIELDS, tag - 1)
     } else {
-        COMMAND_FIELDS.get(usize::from(tag - 16)).copied()
+        count_at(&COMMAND_FIELDS, tag - 16)
     }
+}
+
+/// The count at a place, if there is one.
+fn count_at(counts: &[usize], place: u8) -> Option<usize>
+    ensures { result ≡ slice_get counts.now place }
+{
+    counts.get(usize::from(place)).copied()
 }
 
 /// Takes so many numbers, and puts them into the front of an array. What was behind them there is 0.

@@ -3,11 +3,13 @@
 #![tactic(auto)]
 
 mod commands;
+mod encode;
 mod end;
 mod fields;
 mod items;
 mod number;
 mod numbers;
 
+pub use encode::encode_item;
 pub use end::BinEnd;
 pub use text_model::{Command, Item};
