@@ -1,3 +1,5 @@
+pub mod Again
+pub mod ItemFields
 pub mod NumberLaws
 pub mod NumbersLaws
 pub mod Parts

@@ -46,7 +46,7 @@ unfolding groups_at
 groups_at-none low rest = refl
 
 -- a group below a number that has at most 64 bits with it, and is not 0
-with_low-fits : (low high : ℕ) (rest : List ℕ) → 0 < high → high < 2 ^ 57 → with_low low (high, rest) ≡ Ok (low + 128 * high, rest)
+pub with_low-fits : (low high : ℕ) (rest : List ℕ) → 0 < high → high < 2 ^ 57 → with_low low (high, rest) ≡ Ok (low + 128 * high, rest)
 with_low-fits low high rest some few =
     rw (ne_eqb high 0 (λ none. absurd (omega arith)), lt-leb (2 ^ 57) high few) refl
 

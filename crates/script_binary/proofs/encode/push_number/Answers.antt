@@ -1,4 +1,4 @@
-use Rattle.std.proofs.Common.{arith}
+use Rattle.std.proofs.Common.{refl, arith}
 use Rattle.script_binary.proofs.Spelling.{left_all, left_more, left_last, left_kept, kept}
 use Rattle.script_binary.proofs.encode.push_number.Goals as goal
 
@@ -12,13 +12,13 @@ returns-in_err-extend_from_slice-clause-err c =
 
 pub loop-rest-preserved : goal.loop-rest-preserved
 loop-rest-preserved c =
-    left_more c.args.out.now.items c.loop-rest.out.items c.extend_from_slice.new.self.items c.args.number c.loop-rest.rest _ (omega arith) ? 
+    left_more c.args.out.now.items c.loop-rest.out.items c.extend_from_slice.new.self.items c.args.number c.loop-rest.rest _ (omega arith) refl
     c.in_ok-extend_from_slice.ensures.items c.loop-rest.invariant
 
 pub returns-clause-ok : goal.returns-clause-ok
 returns-clause-ok c =
     left_last c.extend_from_slice-2.result c.args.out.now.items c.loop-rest.out.items c.extend_from_slice-2.new.self.items c.args.number c.loop-rest.rest _
-    (omega arith) ? c.extend_from_slice-2.ensures.items c.loop-rest.invariant
+    (omega arith) refl c.extend_from_slice-2.ensures.items c.loop-rest.invariant
 
 pub returns-clause-err : goal.returns-clause-err
 returns-clause-err c =
