@@ -1,4 +1,5 @@
 pub mod Again
+pub mod BodyLaws
 pub mod ItemFields
 pub mod NumberLaws
 pub mod NumbersLaws

@@ -1,9 +1,11 @@
 -- The numbers of a record, as its reader holds them.
-use Rattle.std.specs.Prelude.{ℕ, ◌<◌, ◌^◌, All, List, take, Result, Ok, Err}
+use Rattle.std.specs.Prelude.{◌≡◌, ℕ, ◌<◌, ◌^◌, All, List, take, Result, Ok, Err}
+use Rattle.text_model.specs.declared.item.Item.{Item}
 use Rattle.text_model.specs.declared.item.BadLine.{BadLine}
 use Rattle.text_model.specs.Range.{is_above_ids}
 use Rattle.text_model.specs.Numbers.{◌>>=◌}
-use Rattle.text_model.specs.Binary.{Fields}
+use Rattle.text_model.specs.ItemLine.{HasLine}
+use Rattle.text_model.specs.Binary.{Fields, item_fields, numbers_bytes}
 use Rattle.text_model.specs.BinaryReading.{one_of, two_of}
 use Rattle.script_text.specs.Words.{unless_above}
 use Rattle.script_binary.specs.declared.end.BinEnd.{BinEnd}
@@ -30,3 +32,12 @@ two_slots numbers = do
 -- each number of a record has at most 64 bits
 abbrev pub AreWords : Fields → Type 0
 AreWords of = All (λ n. n < 2 ^ 64) of.numbers
+
+-- the bytes of an item's record behind its tag
+abbrev pub body_bytes : Item → List ℕ
+body_bytes item = numbers_bytes (item_fields item).numbers
+
+-- the item can be said by a line, and its record has this tag
+pub record HasTag (tag : ℕ) (item : Item) : Type 0 where
+  pub has_line : HasLine item
+  pub tag_is : (item_fields item).tag ≡ tag

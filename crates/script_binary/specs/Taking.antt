@@ -15,6 +15,14 @@ TakesByte before after (Err Syntax) = Consumes before after [] × IsAtEnd after
 TakesByte before after (Err Range) = ⊥
 TakesByte before after (Err ReadFault) = Keeps before after
 
+-- The input ends, or a byte came.
+abbrev pub TakesEnd : Option (List ℕ) → Option (List ℕ) → Result (Unit {0}) BinEnd → Type 0
+TakesEnd before after (Ok done) = Consumes before after [] × IsAtEnd after
+TakesEnd before after (Err TooMany) = ⊥
+TakesEnd before after (Err Syntax) = (byte : ℕ) × Consumes before after (byte ∷ [])
+TakesEnd before after (Err Range) = ⊥
+TakesEnd before after (Err ReadFault) = Keeps before after
+
 -- The bytes at the front were taken, and x is read from them, whatever follows.
 pub record TakesWhole {X : Type 0} (read : List ℕ → Result (X × List ℕ) BadLine) (before after : Option (List ℕ)) (bytes : List ℕ) (x : X)
     : Type 0 where

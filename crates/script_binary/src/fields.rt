@@ -1,5 +1,5 @@
 //! The numbers of a record, behind its tag.
-ghost use Rattle.std.specs.Prelude.{◌≡◌, ◌≤◌, slice_get};
+ghost use Rattle.std.specs.Prelude.{◌≡◌, ◌≤◌, slice_get, IfOk, length};
 ghost use Rattle.std.specs.Io.KnownBytes.{prepend_known};
 ghost use Rattle.text_model.specs.Binary.{numbers_bytes};
 ghost use Rattle.text_model.specs.BinaryReading.{count_of, numbers_at};
@@ -53,6 +53,7 @@ pub(crate) fn take_fields<F: Files>(
     ensures taken { let before = prepend_known bytes.old (F.rest files.old) in
         let after = prepend_known bytes.new (F.rest files.new) in
         Takes (numbers_at count) numbers_bytes before after (numbers_read count result) }
+    ensures long { IfOk result (λ fields. length fields ≡ 5) }
     ensures cause { HasBinCause (F.faults files.old) (F.faults files.new) bytes.new result }
     ensures bytes { F.bytes files.new ≡ F.bytes files.old }
     ensures may_begin { F.may_begin files.new ≡ F.may_begin files.old }

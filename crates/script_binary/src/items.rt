@@ -1,6 +1,6 @@
 //! The item of a tag and its numbers.
 
-ghost use Rattle.std.specs.Prelude.{◌≡◌, false};
+ghost use Rattle.std.specs.Prelude.{◌≡◌, ◌<◌, ◌^◌, All, false};
 ghost use Rattle.text_model.specs.Grammar.{is_above_shape};
 ghost use Rattle.text_model.specs.BinaryReading.{item_with, setting_by, fixed_by, array_by, weak_by};
 
@@ -17,7 +17,8 @@ const MAX_NAME: u64 = 12;
 /// place, `Syntax` where they have no form.
 #[tactic(auto, unfolding(text_model::specs::BinaryReading::item_with))]
 pub(crate) fn item_with(tag: u8, numbers: &[u64]) -> Result<Item, BadLine>
-    ensures { result ≡ item_with tag numbers.now }
+    ensures reading { result ≡ item_with tag numbers.now }
+    ensures words { All (λ n. n < 2 ^ 64) numbers.now }
 {
     match tag {
         1 => setting_by(numbers),

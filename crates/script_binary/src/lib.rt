@@ -2,6 +2,7 @@
 //! of one byte and numbers in groups of seven bits, and each item that is not blank has just one. (The form is this project's own.)
 #![tactic(auto)]
 
+mod body;
 mod commands;
 mod encode;
 mod end;
@@ -9,7 +10,9 @@ mod fields;
 mod items;
 mod number;
 mod numbers;
+mod reader;
 
 pub use encode::encode_item;
 pub use end::BinEnd;
+pub use reader::BinReader;
 pub use text_model::{Command, Item};
