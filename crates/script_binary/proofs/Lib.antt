@@ -4,4 +4,5 @@ pub mod ItemFields
 pub mod NumberLaws
 pub mod NumbersLaws
 pub mod Parts
+pub mod ReaderAnswers
 pub mod Spelling

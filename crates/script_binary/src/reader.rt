@@ -80,10 +80,8 @@ impl BinReader {
         let tag = take_byte(&mut self.bytes, files)?;
         if tag == END_TAG {
             self.ended = true;
-            return match take_end(&mut self.bytes, files) {
-                Ok(()) => Ok(None),
-                Err(end) => Err(end),
-            };
+            take_end(&mut self.bytes, files)?;
+            return Ok(None);
         }
         if self.count == MAX_RECORDS {
             return Err(BinEnd::TooMany);
