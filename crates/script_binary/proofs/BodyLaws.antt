@@ -93,4 +93,3 @@ takes_no_item tag n ns reason end before after counted says h is =
       taken = h.taken;
       refused = λ rest same. body_not tag n ns (numbers_bytes ns ++ rest) rest reason counted (h.reads rest) says;
     }))
-

@@ -103,8 +103,8 @@ pub takes_more : (more inner b low high : ℕ) (before mid after : Option (List 
 takes_more more inner b low high before mid after is much byte is_low first some few h =
     let spelled : groups_of more (low + 128 * high) ≡ b ∷ groups_of inner high =
     ap (λ m. groups_of m (low + 128 * high)) is
-        ∙ ap (λ l. groups_of (suc inner) (l + 128 * high)) is_low
-        ∙ groups_of-more inner b high much byte some in
+    ∙ ap (λ l. groups_of (suc inner) (l + 128 * high)) is_low
+    ∙ groups_of-more inner b high much byte some in
     record {
       taken = subst (Consumes before after) (sym spelled) (Consumes-trans before mid after (b ∷ []) (groups_of inner high) first h.taken);
       reads = λ rest.

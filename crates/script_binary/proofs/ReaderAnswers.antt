@@ -82,11 +82,11 @@ body_fails : (old : BinState) (held mid left : List ℕ) (count tag : ℕ) (ende
 body_fails old held mid left count tag ended before between after TooMany is_old unended some few first h none = absurd h
 body_fails old held mid left count tag ended before between after Syntax is_old unended some few first h none =
     let says = unit_refused (count + 1) tag (prepend_known held before) (prepend_known mid between) (prepend_known left after) bad.Syntax some
-        (omega arith) first h in
+    (omega arith) first h in
     rw (unended, ← is_old) (refl, says)
 body_fails old held mid left count tag ended before between after Range is_old unended some few first h none =
     let says = unit_refused (count + 1) tag (prepend_known held before) (prepend_known mid between) (prepend_known left after) bad.Range some
-        (omega arith) first h in
+    (omega arith) first h in
     rw (← is_old) ((refl, unended), says)
 body_fails old held mid left count tag ended before between after ReadFault is_old unended some few first h none =
     let taken = Consumes-trans (prepend_known held before) (prepend_known mid between) (prepend_known left after) (tag ∷ []) h.part first h.taken in

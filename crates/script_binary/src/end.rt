@@ -1,11 +1,11 @@
 //! Why no further record is read.
 
+ghost use Rattle.std.specs.Prelude.{◌≡◌};
+ghost use Rattle.script_binary.specs.Reader.{end_of_bad};
+
 use std::error::Error;
 use std::fmt;
 use text_model::BadLine;
-
-ghost use Rattle.std.specs.Prelude.{◌≡◌};
-ghost use Rattle.script_binary.specs.Reader.{end_of_bad};
 
 /// Why no further record is read.
 #[derive(Clone, Copy, Debug, PartialEq, Eq)]

@@ -16,3 +16,6 @@ pub use encode::encode_item;
 pub use end::BinEnd;
 pub use reader::BinReader;
 pub use text_model::{Command, Item};
+
+#[cfg(test)]
+mod tests;

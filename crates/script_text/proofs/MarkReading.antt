@@ -85,10 +85,12 @@ reads_behind from old got before after (Ok count) within same bound taken =
     let long : length got ≡ length old - from = same ∙ length-take-le (length old - from) (drop from old) (omega (arith, length-drop from old)) in
     let most : count ≤ length got = bound.0 in
     let rest = post_of from (length old - from) old in
-    let first : length (take from old) ≡ from = length-take-le from old (omega arith) in
-    (take count got,
+    let first : length (take from old) ≡ from = length-take-le from old (omega arith) in (
+      take count got,
       take_past (take from old) (got ++ rest) count (from + count) (omega arith)
           ∙ ap (λ l. take from old ++ l) (take-append-le count got rest most),
       omega (arith, length-append (take from old) (got ++ rest), length-append got rest),
-      taken.0, λ none. (taken.1 none (omega arith), ap (λ n. take n got) none))
+      taken.0,
+      λ none. (taken.1 none (omega arith), ap (λ n. take n got) none),
+    )
 reads_behind from old got before after (Err failed) within same bound taken = taken
