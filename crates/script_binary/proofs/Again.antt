@@ -1,21 +1,19 @@
 -- The record of an item is read as that item, whatever follows.
-use Rattle.std.proofs.Common.{◌≡◌, ℕ, zero, suc, ◌+◌, ◌-◌, ◌*◌, ◌/◌, ◌%◌, ◌^◌, ◌<◌, ◌≤◌, Bool, true, false, List, [], ◌∷◌, ◌++◌, length, Option, Some, None, Result, Ok, Err, refl, sym, ap, ◌∙◌, subst, inl, inr, arith, append_assoc}
-use Rattle.std.specs.Prelude.{All, nat_lt, ◌||◌, slice_index_or}
+use Rattle.std.proofs.Common.{◌≡◌, ℕ, zero, suc, ◌+◌, ◌-◌, ◌*◌, ◌/◌, ◌%◌, ◌^◌, ◌<◌, ◌≤◌, Bool, true, false, List, [], ◌∷◌, ◌++◌, length, Some, Ok, refl, ap, ◌∙◌, inl, inr, arith, append_assoc}
+use Rattle.std.specs.Prelude.{All, nat_lt}
 use Rattle.std.proofs.lemmas.Bool.{cases_Bool, ltb-true, ltb-false, le-ltb}
 use Rattle.type_table.specs.declared.info.Shape.{Shape}
 use Rattle.type_table.specs.declared.info.Shape.TheVariants.{Fixed, IntArray, RefArray, Weak}
-use Rattle.type_table.specs.declared.info.TypeInfo.{TypeInfo}
 use Rattle.text_model.specs.declared.command.Command.{Command}
 use Rattle.text_model.specs.declared.command.Command.TheVariants.{NewFixed, NewArray, NewWeak, Put, Get, Link, Load, CopyRefs, MoveRoot, DropRoot, Same, Ident, Hash, Place, Pin, Unpin, Deref, Register, NextFinal, MakeLink, Inc, Dec, Count, FromObj, ToObj, NextDead, Minor, Step, Collect, Used}
 use Rattle.text_model.specs.declared.item.Item.{Item}
 use Rattle.text_model.specs.declared.item.Item.TheVariants.{Blank, Setting, TypeDef, Command as CommandItem}
-use Rattle.text_model.specs.declared.item.BadLine.{BadLine}
 use Rattle.text_model.specs.Numbers.{◌>>=◌}
 use Rattle.text_model.specs.CommandGrammar.{in_range}
 use Rattle.text_model.specs.Grammar.{as_item}
 use Rattle.text_model.specs.ItemLine.{HasLine, IsTypeInRange}
-use Rattle.text_model.specs.Binary.{groups_of, number_bytes, numbers_bytes, fields, command_fields, type_fields, item_fields, item_record}
-use Rattle.text_model.specs.BinaryReading.{with_low, groups_at, number_at, numbers_at, truth, copy_of, link_of, structure_with, slot_with, command_with, setting_by, item_with, count_of, or_syntax, body_at, record_at}
+use Rattle.text_model.specs.Binary.{groups_of, number_bytes, numbers_bytes, command_fields, type_fields, item_fields, item_record}
+use Rattle.text_model.specs.BinaryReading.{with_low, groups_at, number_at, numbers_at, copy_of, link_of, structure_with, slot_with, command_with, setting_by, item_with, count_of, body_at, record_at}
 use Rattle.script_binary.specs.Fields.{AreWords}
 use Rattle.script_binary.proofs.NumberLaws.{groups_of-last, groups_at-last, groups_at-more, with_low-fits}
 

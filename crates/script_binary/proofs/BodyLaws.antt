@@ -1,19 +1,19 @@
 -- What stands behind the tag of a record.
-use Rattle.std.proofs.Common.{◌≡◌, ℕ, zero, suc, ◌<◌, ◌≤◌, ◌-◌, ◌^◌, Bool, true, false, List, [], ◌∷◌, ◌++◌, length, take, Option, Some, None, Result, Ok, Err, refl, sym, ap, ◌∙◌, subst, inl, inr, arith, length-take-le}
-use Rattle.std.specs.Prelude.{All, nat_lt, nat_le, ◌&&◌, ◌==◌, slice_get, slice_index_or}
+use Rattle.std.proofs.Common.{◌≡◌, ℕ, zero, suc, ◌<◌, ◌≤◌, ◌-◌, ◌^◌, Bool, true, List, [], ◌∷◌, ◌++◌, Option, Some, None, Ok, Err, refl, sym, ap, ◌∙◌, subst, inl, inr}
+use Rattle.std.specs.Prelude.{All, nat_lt, nat_le, ◌&&◌, ◌==◌, slice_get}
 use Rattle.std.specs.Io.KnownBytes.{Consumes}
 use Rattle.std.proofs.KnownBytes.{Consumes-nil}
 use Rattle.std.proofs.lemmas.Bool.{cases_Bool, and_parts, leb-true}
 use Rattle.text_model.specs.declared.item.Item.{Item}
 use Rattle.text_model.specs.declared.item.BadLine.{BadLine}
 use Rattle.text_model.specs.declared.item.BadLine.TheVariants as bad
-use Rattle.text_model.specs.Binary.{Fields, fields, numbers_bytes, item_fields}
+use Rattle.text_model.specs.Binary.{Fields, numbers_bytes}
 use Rattle.text_model.specs.BinaryReading.{numbers_at, item_with, setup_counts, command_counts, count_of, body_at}
 use Rattle.script_binary.specs.declared.end.BinEnd.{BinEnd}
 use Rattle.script_binary.specs.Fields.{HasTag, body_bytes}
 use Rattle.script_binary.specs.Reader.{end_of_bad}
 use Rattle.script_binary.specs.Taking.{TakesWhole, IsRefused, Takes}
-use Rattle.script_binary.proofs.ItemFields.{IsItem, item_is}
+use Rattle.script_binary.proofs.ItemFields.{item_is}
 use Rattle.script_binary.proofs.Parts.{Passes}
 
 abbrev all_few : List ℕ → Bool

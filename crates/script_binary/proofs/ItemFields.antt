@@ -1,6 +1,6 @@
 -- What a tag and its numbers say has just that tag and those numbers.
-use Rattle.std.proofs.Common.{◌≡◌, ℕ, suc, ◌+◌, ◌<◌, ◌≤◌, ◌^◌, Bool, true, false, List, [], ◌∷◌, length, Option, Some, None, Result, Ok, Err, refl, sym, ap, ◌∙◌, subst, inl, inr, arith}
-use Rattle.std.specs.Prelude.{All, nat_lt, ◌||◌, ◌==◌, if◌then◌else◌, slice_get, slice_index_or}
+use Rattle.std.proofs.Common.{◌≡◌, ℕ, ◌<◌, ◌^◌, Bool, true, false, List, [], ◌∷◌, Result, Ok, Err, refl, sym, ap, ◌∙◌, subst, inl, inr, arith}
+use Rattle.std.specs.Prelude.{All, nat_lt, ◌||◌, ◌==◌, if◌then◌else◌}
 use Rattle.std.proofs.lemmas.Bool.{cases_Bool, or_parts, eqb-true, ltb-false}
 use Rattle.type_table.specs.declared.info.Shape.{Shape}
 use Rattle.type_table.specs.declared.info.Shape.TheVariants.{Fixed, IntArray, RefArray, Weak}
@@ -8,16 +8,16 @@ use Rattle.type_table.specs.declared.info.TypeInfo.{TypeInfo}
 use Rattle.text_model.specs.declared.command.Command.{Command}
 use Rattle.text_model.specs.declared.command.Command.TheVariants.{NewFixed, NewArray, NewWeak, Put, Get, Link, Load, CopyRefs, MoveRoot, DropRoot, Same, Ident, Hash, Place, Pin, Unpin, Deref, Register, NextFinal, MakeLink, Inc, Dec, Count, FromObj, ToObj, NextDead, Minor, Step, Collect, Used}
 use Rattle.text_model.specs.declared.item.Item.{Item}
-use Rattle.text_model.specs.declared.item.Item.TheVariants.{Blank, Setting, TypeDef, Command as CommandItem}
+use Rattle.text_model.specs.declared.item.Item.TheVariants.{Setting, TypeDef, Command as CommandItem}
 use Rattle.text_model.specs.declared.item.BadLine.{BadLine}
 use Rattle.text_model.specs.declared.item.BadLine.TheVariants as bad
 use Rattle.text_model.specs.Range.{is_above, is_above_ids}
 use Rattle.text_model.specs.Numbers.{◌>>=◌}
 use Rattle.text_model.specs.CommandGrammar.{in_range}
 use Rattle.text_model.specs.Grammar.{is_above_shape, type_in_range, as_item}
-use Rattle.text_model.specs.ItemLine.{StoresWord, IsCommandInRange, IsTypeInRange, HasLine}
+use Rattle.text_model.specs.ItemLine.{StoresWord, HasLine}
 use Rattle.text_model.specs.Binary.{Fields, fields, bit, command_fields, type_fields, item_fields}
-use Rattle.text_model.specs.BinaryReading.{truth, none_of, one_of, two_of, three_of, four_of, five_of, bare, of_one, of_two, of_three, copy_of, link_of, structure_with, slot_with, command_with, setting_by, type_by, fixed_by, array_by, weak_by, item_with}
+use Rattle.text_model.specs.BinaryReading.{truth, none_of, one_of, two_of, three_of, four_of, five_of, bare, of_one, of_two, of_three, copy_of, link_of, structure_with, slot_with, command_with, setting_by, fixed_by, array_by, weak_by, item_with}
 use Rattle.script_binary.specs.Fields.{AreWords}
 
 -- Where two readings, one after the other, gave something, P follows if it follows from what each gave.

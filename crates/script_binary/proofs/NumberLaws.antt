@@ -1,16 +1,15 @@
 -- Numbers in groups of seven bits are read again, whatever follows.
-use Rattle.std.proofs.Common.{◌≡◌, ℕ, zero, suc, ◌+◌, ◌-◌, ◌*◌, ◌/◌, ◌%◌, ◌^◌, ◌<◌, ◌≤◌, true, false, List, [], ◌∷◌, ◌++◌, Option, Result, Ok, Err, inl, inr, ◌⊎◌, refl, sym, ap, ◌∙◌, subst, arith}
-use Rattle.std.specs.Prelude.{nat_lt, nat_le, ◌==◌, ◌||◌}
+use Rattle.std.proofs.Common.{◌≡◌, ℕ, zero, suc, ◌+◌, ◌-◌, ◌*◌, ◌/◌, ◌%◌, ◌^◌, ◌<◌, ◌≤◌, List, [], ◌∷◌, ◌++◌, Option, Ok, Err, inl, inr, ◌⊎◌, refl, sym, ap, ◌∙◌, subst, arith}
+use Rattle.std.specs.Prelude.{◌==◌}
 use Rattle.std.specs.Io.KnownBytes.{Consumes}
 use Rattle.std.proofs.Math.Bool.{or-true}
 use Rattle.std.proofs.KnownBytes.{Consumes-trans}
-use Rattle.std.proofs.lemmas.Bool.{lt-ltb, le-ltb, ltb-true, ltb-false, lt-leb, le-leb, ne_eqb}
-use Rattle.text_model.specs.declared.item.BadLine.{BadLine}
+use Rattle.std.proofs.lemmas.Bool.{lt-ltb, le-ltb, lt-leb, le-leb, ne_eqb}
 use Rattle.text_model.specs.declared.item.BadLine.TheVariants as bad
 use Rattle.text_model.specs.Numbers.{◌>>=◌}
-use Rattle.text_model.specs.Binary.{groups_of, number_bytes}
+use Rattle.text_model.specs.Binary.{groups_of}
 use Rattle.text_model.specs.BinaryReading.{groups_at, with_low}
-use Rattle.script_binary.specs.Taking.{TakesWhole, IsRefused, Takes}
+use Rattle.script_binary.specs.Taking.{TakesWhole, IsRefused}
 use Rattle.script_binary.proofs.Parts.{Passes}
 
 -- a byte that is the last

@@ -1,12 +1,12 @@
 -- What reading takes in parts, one behind another.
-use Rattle.std.proofs.Common.{◌≡◌, ℕ, List, [], ◌∷◌, ◌++◌, Option, Some, None, Result, Ok, Err, refl, sym, ap, ◌∙◌, subst, append_assoc, append-nil}
-use Rattle.std.specs.Io.KnownBytes.{Consumes, IsAtEnd, Keeps}
-use Rattle.std.proofs.KnownBytes.{Consumes-nil, Consumes-trans, Consumes-kept}
+use Rattle.std.proofs.Common.{◌≡◌, ℕ, List, [], ◌++◌, Option, Some, Result, Err, ap, ◌∙◌, subst, append_assoc, append-nil}
+use Rattle.std.specs.Io.KnownBytes.{Consumes, IsAtEnd}
+use Rattle.std.proofs.KnownBytes.{Consumes-trans, Consumes-kept}
 use Rattle.text_model.specs.declared.item.BadLine.{BadLine}
 use Rattle.text_model.specs.declared.item.BadLine.TheVariants as bad
 use Rattle.script_binary.specs.declared.end.BinEnd.{BinEnd}
 use Rattle.script_binary.specs.declared.end.BinEnd.TheVariants.{TooMany, Syntax, Range, ReadFault}
-use Rattle.script_binary.specs.Taking.{TakesByte, TakesWhole, IsRefused, BreaksOff, Takes}
+use Rattle.script_binary.specs.Taking.{TakesByte, IsRefused, BreaksOff, Takes}
 
 -- A front and then nothing was taken.
 pub then_nothing : (before mid after : Option (List ℕ)) (front : List ℕ) → Consumes before mid front → Consumes mid after []

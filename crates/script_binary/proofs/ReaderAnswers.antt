@@ -1,7 +1,7 @@
 -- What a reader of records answers, by what it took from the bytes ahead.
-use Rattle.std.proofs.Common.{◌≡◌, ℕ, ◌+◌, ◌<◌, ◌≤◌, Bool, true, false, List, [], ◌∷◌, ◌++◌, Option, Some, None, Result, Ok, Err, refl, sym, ap, ◌∙◌, subst, arith}
-use Rattle.std.specs.Prelude.{IfSome, nat_lt, ◌==◌}
-use Rattle.std.specs.Io.KnownBytes.{Consumes, IsAtEnd, Keeps, prepend_known}
+use Rattle.std.proofs.Common.{◌≡◌, ℕ, ◌+◌, ◌<◌, ◌≤◌, Bool, true, false, List, [], ◌∷◌, ◌++◌, Option, Some, None, Result, Err, refl, ap, ◌∙◌, subst, arith}
+use Rattle.std.specs.Prelude.{IfSome}
+use Rattle.std.specs.Io.KnownBytes.{Consumes, prepend_known}
 use Rattle.std.proofs.KnownBytes.{Consumes-trans, Consumes-kept, prepend_known-nil}
 use Rattle.std.proofs.lemmas.Bool.{ne_eqb, le-ltb}
 use Rattle.text_model.specs.declared.item.Item.{Item}
@@ -12,8 +12,8 @@ use Rattle.text_model.specs.BinaryReading.{count_of, body_at, record_at, unit_at
 use Rattle.script_binary.specs.declared.end.BinEnd.{BinEnd}
 use Rattle.script_binary.specs.declared.end.BinEnd.TheVariants.{TooMany, Syntax, Range, ReadFault}
 use Rattle.script_binary.specs.Fields.{body_bytes}
-use Rattle.script_binary.specs.Reader.{BinState, ahead, GoesOn, Reads, record_limit}
-use Rattle.script_binary.specs.Taking.{TakesEnd, IsRefused, BreaksOff, Takes}
+use Rattle.script_binary.specs.Reader.{BinState, GoesOn, Reads, record_limit}
+use Rattle.script_binary.specs.Taking.{TakesEnd, IsRefused, Takes}
 
 -- A reader by its parts.
 abbrev pub state : List ℕ → ℕ → Bool → BinState

@@ -1,5 +1,5 @@
 -- What the parts of a reader of records take from the bytes ahead. `read` is what the definition reads at the front of bytes.
-use Rattle.std.specs.Prelude.{◌≡◌, ◌≤◌, IsErrOf, ℕ, List, [], ◌∷◌, ◌++◌, Option, Some, None, Result, Ok, Err}
+use Rattle.std.specs.Prelude.{◌≡◌, ◌≤◌, IsErrOf, ℕ, List, [], ◌∷◌, ◌++◌, Option, Some, Result, Ok, Err}
 use Rattle.std.specs.Io.KnownBytes.{Consumes, IsAtEnd, Keeps}
 use Rattle.heap_io.specs.Causes.{Rose}
 use Rattle.text_model.specs.declared.item.BadLine.{BadLine}

@@ -1,6 +1,6 @@
 -- What a test for the mark of a binary script has seen.
-use Rattle.std.proofs.Common.{◌≡◌, ℕ, zero, suc, ◌+◌, ◌-◌, ◌<◌, ◌≤◌, true, false, List, [], ◌∷◌, ◌++◌, length, take, drop, Option, Some, None, Result, Ok, Err, refl, sym, ap, ◌∙◌, subst, arith, inl, inr, ◌⊎◌, eqb, Bool, length-take-le, length-drop, length-append, length-take}
-use Rattle.std.specs.Prelude.{bytes_eq, IfSome}
+use Rattle.std.proofs.Common.{◌≡◌, ℕ, zero, suc, ◌+◌, ◌-◌, ◌<◌, ◌≤◌, true, false, List, [], ◌∷◌, ◌++◌, length, take, drop, Option, Some, None, Result, Ok, Err, refl, sym, ap, ◌∙◌, subst, arith, inl, inr, ◌⊎◌, eqb, Bool, length-take-le, length-drop, length-append}
+use Rattle.std.specs.Prelude.{bytes_eq}
 use borrow.Rule.Slice.PartMut.{put_mid, post_of}
 use Rattle.std.specs.List.{starts_with}
 use Rattle.std.specs.Io.{ReadsAtMost}
@@ -9,7 +9,6 @@ use Rattle.std.proofs.KnownBytes.{Consumes-kept}
 use Rattle.std.proofs.lemmas.Bool.{false≢true}
 use Rattle.std.proofs.lemmas.Bool.Decides.{Decides-eqb}
 use Rattle.std.proofs.lemmas.List.{take-append-le, take-append-drop}
-use Rattle.std.proofs.lemmas.Slice.{take-put_mid, overwrites}
 use Rattle.std.proofs.lemmas.Slice.Eq.{starts_is}
 use Rattle.heap_io.specs.declared.Failed.{Failed}
 use Rattle.text_model.specs.Binary.{binary_mark}

@@ -86,10 +86,8 @@ impl Bytes {
         ensures bytes { F.bytes files.new ≡ F.bytes files.old }
         ensures may_begin { F.may_begin files.new ≡ F.may_begin files.old }
     {
-        match self.refill(files) {
-            Ok(()) => Ok(self.pop()),
-            Err(failed) => Err(failed),
-        }
+        self.refill(files)?;
+        Ok(self.pop())
     }
 
     /// The next byte, as a reader of lines answers. After a fault no byte is left of the piece.

@@ -5,7 +5,7 @@ use Rattle.type_table.specs.declared.info.Shape.TheVariants.{Fixed, IntArray, Re
 use Rattle.text_model.specs.declared.command.Command.{Command}
 use Rattle.text_model.specs.declared.command.Command.TheVariants.{NewFixed, NewArray, NewWeak, Put, Get, Link, Load, CopyRefs, MoveRoot, DropRoot, Same, Ident, Hash, Place, Pin, Unpin, Deref, Register, NextFinal, MakeLink, Inc, Dec, Count, FromObj, ToObj, NextDead, Minor, Step, Collect, Used}
 use Rattle.text_model.specs.declared.item.Item.{Item}
-use Rattle.text_model.specs.declared.item.Item.TheVariants.{Setting, TypeDef}
+use Rattle.text_model.specs.declared.item.Item.TheVariants.{Setting}
 use Rattle.text_model.specs.declared.item.BadLine.{BadLine}
 use Rattle.text_model.specs.declared.item.BadLine.TheVariants.{Syntax}
 use Rattle.text_model.specs.declared.item.Reason.{Reason}

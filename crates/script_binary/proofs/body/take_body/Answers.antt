@@ -1,9 +1,9 @@
-use Rattle.std.proofs.Common.{◌≡◌, ◌≤◌, [], Some, None, Ok, Err, take, length, sym, ap, ◌∙◌, arith, length-take-le}
+use Rattle.std.proofs.Common.{◌≤◌, [], Err, take, sym, ap, ◌∙◌, arith, length-take-le}
 use Rattle.std.specs.Io.KnownBytes.{prepend_known}
 use Rattle.std.proofs.KnownBytes.{Consumes-nil}
 use Rattle.std.proofs.lemmas.Result.{err_from_is_err_and}
 use Rattle.text_model.specs.Binary.{numbers_bytes}
-use Rattle.text_model.specs.BinaryReading.{count_of, numbers_at, body_at}
+use Rattle.text_model.specs.BinaryReading.{numbers_at, body_at}
 use Rattle.script_binary.specs.Fields.{body_bytes}
 use Rattle.script_binary.proofs.Parts.{takes_error, takes_behind}
 use Rattle.script_binary.proofs.BodyLaws.{count_few, refuses_tag, passes_body, takes_item, has_tag, takes_no_item}

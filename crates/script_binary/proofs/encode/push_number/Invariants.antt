@@ -1,4 +1,3 @@
-use Rattle.std.proofs.Common.{◌≡◌, ◌++◌, ◌<◌, ◌^◌, suc}
 use Rattle.script_binary.proofs.Spelling.{IsLeft}
 use Rattle.script_binary.proofs.encode.push_number.Given as goal
 

@@ -1,6 +1,6 @@
-use Rattle.std.proofs.Common.{◌≡◌, ◌<◌, false, Err, ap, ◌∙◌, sym, arith}
+use Rattle.std.proofs.Common.{◌≡◌, false, Err, ap, ◌∙◌, arith}
 use Rattle.std.proofs.lemmas.Result.{err_from_is_err_and}
-use Rattle.script_binary.specs.Reader.{BinState, record_limit}
+use Rattle.script_binary.specs.Reader.{BinState}
 use Rattle.script_binary.proofs.ReaderAnswers.{reads_no_end, reads_no_item}
 use Rattle.script_binary.proofs.reader.BinReader.next.Goals as goal
 

@@ -1,4 +1,4 @@
-use Rattle.std.proofs.Common.{◌≡◌, ℕ, List, Bool, true, take, false, inl, inr, length, refl, eqb, sym, ◌∙◌, subst, arith, length-take-le}
+use Rattle.std.proofs.Common.{◌≡◌, ℕ, List, true, take, false, inl, inr, length, refl, eqb, sym, ◌∙◌, subst, arith, length-take-le}
 use Rattle.std.specs.Prelude.{bytes_eq}
 use Rattle.std.specs.List.{starts_with}
 use Rattle.text_model.specs.Binary.{binary_mark}
