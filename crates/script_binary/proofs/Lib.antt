@@ -6,3 +6,4 @@ pub mod NumbersLaws
 pub mod Parts
 pub mod ReaderAnswers
 pub mod Spelling
+pub mod UnitLaws

@@ -1,5 +1,5 @@
 -- The numbers of a record, as its reader holds them.
-use Rattle.std.specs.Prelude.{◌≡◌, ℕ, ◌<◌, ◌^◌, All, List, take, Result, Ok, Err}
+use Rattle.std.specs.Prelude.{◌≡◌, ⊤, [], ◌∷◌, ℕ, ◌<◌, ◌^◌, All, List, take, Result, Ok, Err}
 use Rattle.text_model.specs.declared.item.Item.{Item}
 use Rattle.text_model.specs.declared.item.BadLine.{BadLine}
 use Rattle.text_model.specs.Range.{is_above_ids}
@@ -41,3 +41,12 @@ body_bytes item = numbers_bytes (item_fields item).numbers
 pub record HasTag (tag : ℕ) (item : Item) : Type 0 where
   pub has_line : HasLine item
   pub tag_is : (item_fields item).tag ≡ tag
+
+-- an item that has a record, with numbers of at most 64 bits
+pub record IsEncoded (item : Item) : Type 0 where
+  pub has_line : HasLine item
+  pub words : AreWords (item_fields item)
+
+abbrev pub AreEncoded : List Item → Type 0
+AreEncoded [] = ⊤
+AreEncoded (item ∷ items) = IsEncoded item × AreEncoded items

@@ -11,10 +11,12 @@ mod items;
 mod number;
 mod numbers;
 mod reader;
+mod units;
 
 pub use encode::encode_item;
 pub use end::BinEnd;
 pub use reader::BinReader;
+pub use units::says_its_items;
 pub use text_model::{Command, Item};
 
 #[cfg(test)]

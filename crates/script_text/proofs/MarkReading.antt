@@ -11,8 +11,8 @@ use Rattle.std.proofs.lemmas.Bool.Decides.{Decides-eqb}
 use Rattle.std.proofs.lemmas.List.{take-append-le, take-append-drop}
 use Rattle.std.proofs.lemmas.Slice.Eq.{starts_is}
 use Rattle.heap_io.specs.declared.Failed.{Failed}
-use Rattle.text_model.specs.Binary.{binary_mark}
-use Rattle.script_text.specs.Mark.{begins_binary, TestsMark, BreaksMark, ReadsBehind}
+use Rattle.text_model.specs.Binary.{binary_mark, begins_binary}
+use Rattle.script_text.specs.Mark.{TestsMark, BreaksMark, ReadsBehind}
 
 -- What was held is a front of the mark, and then a read failed.
 pub breaks_mark : (before mid after : Option (List ℕ)) (held : List ℕ) → Consumes before mid held → Keeps mid after

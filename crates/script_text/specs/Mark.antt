@@ -2,11 +2,7 @@
 use Rattle.std.specs.Prelude.{◌≡◌, ℕ, ◌+◌, ◌<◌, ◌≤◌, Result, Ok, Err, Bool, true, false, List, [], ◌++◌, length, take, Option, IfSome, bytes_eq}
 use Rattle.std.specs.Io.KnownBytes.{Consumes, IsAtEnd, Keeps}
 use Rattle.heap_io.specs.declared.Failed.{Failed}
-use Rattle.text_model.specs.Binary.{binary_mark}
-
--- whether bytes begin with the mark
-abbrev pub begins_binary : List ℕ → Bool
-begins_binary bytes = bytes_eq binary_mark (take 4 bytes)
+use Rattle.text_model.specs.Binary.{binary_mark, begins_binary}
 
 -- The mark was taken, or it does not stand at the front and nothing was taken.
 abbrev pub TestsMark : Option (List ℕ) → Option (List ℕ) → Bool → Type 0

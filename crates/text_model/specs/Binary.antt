@@ -1,5 +1,5 @@
 -- The binary form of scripts: a mark, a record for each item that is not blank, and the end record. A record is a tag of one byte, and numbers behind it.
-use Rattle.std.specs.Prelude.{ℕ, zero, suc, ◌+◌, ◌/◌, ◌%◌, nat_lt, Bool, true, false, if◌then◌else◌, List, [], ◌∷◌, ◌++◌}
+use Rattle.std.specs.Prelude.{ℕ, zero, suc, ◌+◌, ◌/◌, ◌%◌, nat_lt, Bool, true, false, if◌then◌else◌, List, [], ◌∷◌, ◌++◌, take, bytes_eq}
 use Rattle.type_table.specs.declared.info.Shape.{Shape}
 use Rattle.type_table.specs.declared.info.Shape.TheVariants.{Fixed, IntArray, RefArray, Weak}
 use Rattle.text_model.specs.declared.command.Command.{Command}
@@ -10,6 +10,10 @@ use Rattle.text_model.specs.declared.item.Item.TheVariants.{Blank, Setting, Type
 -- the bytes with which a binary script begins
 abbrev pub binary_mark : List ℕ
 binary_mark = 80 ∷ 71 ∷ 72 ∷ 50 ∷ []
+
+-- whether bytes begin with the mark
+abbrev pub begins_binary : List ℕ → Bool
+begins_binary bytes = bytes_eq binary_mark (take 4 bytes)
 
 -- the record with which it ends
 abbrev pub end_record : List ℕ

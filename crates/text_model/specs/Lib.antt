@@ -10,3 +10,4 @@ pub mod Text
 pub mod Generated
 pub mod Binary
 pub mod BinaryReading
+pub mod Units
