@@ -6,6 +6,7 @@ pub mod ItemReading
 pub mod ItemSpelling
 pub mod Joined
 pub mod KnownLines
+pub mod MarkReading
 pub mod Numerals
 pub mod ReadWords
 pub mod ReaderAnswers

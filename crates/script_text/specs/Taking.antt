@@ -1,6 +1,7 @@
 -- What the parts of a reader take from the bytes ahead.
 use Rattle.std.specs.Prelude.{◌≡◌, ℕ, ◌<◌, ◌≤◌, List, [], ◌∷◌, ◌++◌, length, take, Option, Some, None, Result, Ok, Err, IsTrue}
 use Rattle.std.specs.Io.KnownBytes.{prepend_known, Consumes, IsAtEnd, Keeps}
+use Rattle.heap_io.specs.declared.Failed.{Failed}
 use Rattle.script_text.specs.declared.reader.ReadEnd.{ReadEnd}
 use Rattle.script_text.specs.declared.reader.ReadEnd.TheVariants.{TooMany, TooLong, ReadFault}
 use Rattle.script_text.specs.declared.reader.Taken.{Taken}
@@ -14,6 +15,12 @@ TakesByte before after (Ok None) = Consumes before after [] × IsAtEnd after
 TakesByte before after (Err TooMany) = ⊥
 TakesByte before after (Err TooLong) = ⊥
 TakesByte before after (Err ReadFault) = Keeps before after
+
+-- The byte at the front was taken, or the input ends. A fault takes nothing.
+abbrev pub GivesByte : Option (List ℕ) → Option (List ℕ) → Result (Option ℕ) Failed → Type 0
+GivesByte before after (Ok (Some byte)) = Consumes before after (byte ∷ [])
+GivesByte before after (Ok None) = Consumes before after [] × IsAtEnd after
+GivesByte before after (Err failed) = Keeps before after
 
 -- The first n bytes of the buffer are the bytes of one line.
 pub record IsLineOf (buf : List ℕ) (n : ℕ) : Type 0 where
@@ -34,10 +41,8 @@ TakesLine before after buf (Err ReadFault) = BreaksOff before after
 
 -- Where no byte was held, some were read, or the input ends. What is ahead stays.
 abbrev pub Refills : List ℕ → List ℕ → Option (List ℕ) → Option (List ℕ)
-    → Result (Unit {0}) ReadEnd → Type 0
+    → Result (Unit {0}) Failed → Type 0
 Refills old new before after (Ok done) =
     Consumes (prepend_known old before) (prepend_known new after) [] × (new ≡ [] → IsAtEnd after)
-Refills old new before after (Err TooMany) = ⊥
-Refills old new before after (Err TooLong) = ⊥
-Refills old new before after (Err ReadFault) =
+Refills old new before after (Err failed) =
     Keeps (prepend_known old before) (prepend_known new after) × (new ≡ [])

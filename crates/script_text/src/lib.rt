@@ -2,11 +2,12 @@
 //! read word by word from its front, and each command has one line, which is read as that command.
 #![tactic(auto)]
 
+mod bytes;
 mod commands;
+mod items;
 mod numbers;
 mod objects;
 mod parse;
-mod piece;
 mod print;
 mod ranges;
 mod reader;
@@ -14,8 +15,11 @@ mod slots;
 mod structures;
 mod words;
 
+pub use bytes::Bytes;
 pub use commands::print_command;
+pub use items::print_item;
 pub use parse::parse_line;
+pub use ranges::{item_number, own_number, slot_number, type_number};
 pub use reader::{LineReader, ReadEnd};
 pub use text_model::{BadLine, Command, Item};
 

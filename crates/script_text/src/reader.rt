@@ -8,7 +8,7 @@ ghost use Rattle.script_text.specs.Reader.{IsInStep};
 ghost use Rattle.script_text.specs.Reading.{HasReadCause, Reads};
 ghost use Rattle.script_text.specs.Taking.{TakesLine};
 
-use crate::piece::Piece;
+use crate::bytes::Bytes;
 use heap_io::Files;
 use std::alloc::{AllocError, Global};
 use std::error::Error;
@@ -57,7 +57,7 @@ impl Error for ReadEnd {}
 /// whether the end was met.
 #[derive(Debug, Drop)]
 pub struct LineReader {
-    piece: Piece,
+    piece: Bytes,
     count: u64,
     ended: bool,
 }
@@ -79,10 +79,21 @@ impl LineReader {
         ensures { IfOk result (λ reader. reader ≡ record { held = []; count = 0; ended = false }) }
     {
         Ok(LineReader {
-            piece: Piece::new(alloc)?,
+            piece: Bytes::new(alloc)?,
             count: 0,
             ended: false,
         })
+    }
+
+    /// A reader of what is ahead of the bytes, as text. It allocates nothing.
+    pub fn over(bytes: Bytes) -> LineReader
+        ensures { result ≡ record { held = bytes; count = 0; ended = false } }
+    {
+        LineReader {
+            piece: bytes,
+            count: 0,
+            ended: false,
+        }
     }
 
     /// The length of the next line, whose bytes are put into the front of `line`, or `None` at the
@@ -141,7 +152,7 @@ enum Taken {
 
 /// Takes the line at the front of the rest, with its LF.
 fn take_line<F: Files>(
-    piece: &mut Piece,
+    piece: &mut Bytes,
     files: &mut F,
     line: &mut [u8; 200],
 ) -> Result<Taken, ReadEnd>

@@ -8,3 +8,6 @@ pub mod ItemLine
 pub mod Script
 pub mod Text
 pub mod Generated
+pub mod Binary
+pub mod BinaryReading
+pub mod Units
