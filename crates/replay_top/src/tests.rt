@@ -56,7 +56,7 @@ fn answered(
     })
 }
 
-const ROWS: [Row; 48] = [
+const ROWS: [Row; 52] = [
     Row {
         script: b"",
         read_fails: &[],
