@@ -56,7 +56,7 @@ fn answered(
     })
 }
 
-const ROWS: [Row; 48] = [
+const ROWS: [Row; 52] = [
     Row {
         script: b"",
         read_fails: &[],
@@ -402,27 +402,27 @@ const ROWS: [Row; 48] = [
         status: Status::Malformed,
     },
     Row {
-        script: b"type 1 fixed 0 0\nnew 0 1\nregister 0 3\n",
+        script: b"type 1 fixed 0 0\nnew 0 1\nregister 0 4\n",
         read_fails: &[],
         write_fails: &[],
         out: b"new 1 young\n",
-        err: b"malformed: line 3: NotBuilt\n",
+        err: b"malformed: line 3: NoQueue\n",
         status: Status::Malformed,
     },
     Row {
-        script: b"type 1 fixed 0 0\ntype 2 weak\nnew 0 1\nweak 1 2 0\n",
+        script: b"type 1 fixed 0 0\ntype 2 weak\nnew 0 1\nweak 1 2 2\n",
         read_fails: &[],
         write_fails: &[],
         out: b"new 1 young\n",
-        err: b"malformed: line 4: NotBuilt\n",
+        err: b"malformed: line 4: NilRoot\n",
         status: Status::Malformed,
     },
     Row {
-        script: b"type 1 refs\nnew 0 1 3\nnew 1 1 3\nlink 0 0 1\ncopyrefs 1 1 0 0 2\n",
+        script: b"type 1 refs\nnew 0 1 2\ncopyrefs 0 1 0 0 2\n",
         read_fails: &[],
         write_fails: &[],
-        out: b"new 1 young\nnew 2 young\n",
-        err: b"malformed: line 5: NotBuilt\n",
+        out: b"new 1 young\n",
+        err: b"malformed: line 3: NoItem\n",
         status: Status::Malformed,
     },
     Row {
