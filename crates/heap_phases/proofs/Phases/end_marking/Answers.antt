@@ -1,5 +1,4 @@
-use Rattle.heap_phases.proofs.FinalPaths.{saved_kept}
-use Rattle.heap_phases.proofs.SameMembers.{same_members}
+use Rattle.heap_phases.proofs.KeptWords.{marks_end}
 use Rattle.heap_phases.proofs.EndCan.{becomes_major}
 use Rattle.heap_phases.proofs.Phases.end_marking.Goals as goal
 
