@@ -26,7 +26,7 @@ use Rattle.store_model.specs.Store.{Store}
 use Rattle.store_model.specs.Marking.{IsMarked, is_white, is_condemned}
 use Rattle.weak_lists.specs.Targets.{ChangesTargets, kept_target}
 use Rattle.heap_parts.specs.Parts.{HeapParts, word_in, home_in}
-use Rattle.heap_parts.specs.Places.{young_places, old_places, block_at, RiseBetween}
+use Rattle.heap_parts.specs.Places.{is_young, young_places, old_places, block_at, RiseBetween}
 use Rattle.heap_parts.specs.OldSpace.{reserved_blocks, husk_at}
 use Rattle.heap_parts.specs.StandsFor.{PartsStandFor}
 use Rattle.heap_parts.specs.Collects.{AreAllPinned}
