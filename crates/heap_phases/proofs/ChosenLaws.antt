@@ -30,8 +30,8 @@ use Rattle.heap_parts.specs.Places.{is_young, old_places}
 use Rattle.heap_parts.specs.Lists.{named_entries}
 use Rattle.heap_parts.specs.StandsFor.{PartsStandFor}
 use Rattle.heap_parts.specs.Collects.{AreAllPinned}
-use Rattle.heap_parts.proofs.MinorNeeds.{settled_place}
-use Rattle.heap_parts.proofs.PlaceLaws.{is_in-old, named-by}
+use Rattle.frame_laws.proofs.MinorNeeds.{settled_place}
+use Rattle.frame_laws.proofs.PlaceLaws.{is_in-old, named-by}
 use Rattle.heap_phases.specs.EndOfMarking.{with_chosen_births}
 use Rattle.heap_phases.specs.Ending.{CanEnd, CanChooseIn, ClearsWeaks, ChoosesFinals, registered_places, named_entry, with_memory}
 use Rattle.heap_phases.proofs.EndLists.{names-entries}

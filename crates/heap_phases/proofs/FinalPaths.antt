@@ -29,7 +29,7 @@ use Rattle.heap_parts.specs.Parts.{HeapParts, word_in}
 use Rattle.heap_parts.specs.Places.{is_young, old_places}
 use Rattle.heap_parts.specs.StandsFor.{PartsStandFor}
 use Rattle.heap_parts.specs.Collects.{AreAllPinned}
-use Rattle.heap_parts.proofs.PlaceLaws.{old-is_in, is_in-old, is_in-young, named-by}
+use Rattle.frame_laws.proofs.PlaceLaws.{old-is_in, is_in-old, is_in-young, named-by}
 use Rattle.heap_phases.specs.Ending.{registered_places}
 use Rattle.heap_phases.specs.Visiting.{old_refs}
 use Rattle.heap_phases.proofs.ClearCalls.{weak_at}

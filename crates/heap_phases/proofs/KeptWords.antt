@@ -41,12 +41,12 @@ use Rattle.heap_parts.specs.Places.{is_young, young_places, old_places, block_at
 use Rattle.heap_parts.specs.OldSpace.{reserved_homes}
 use Rattle.heap_parts.specs.StandsFor.{PartsStandFor}
 use Rattle.heap_parts.specs.Collects.{AreAllPinned}
-use Rattle.heap_parts.proofs.Births.{rise-differ}
+use Rattle.frame_laws.proofs.Births.{rise-differ}
 use Rattle.heap_parts.proofs.BlockLaws.{each-member}
-use Rattle.heap_parts.proofs.Members.{each-left}
-use Rattle.heap_parts.proofs.MinorNeeds.{settled_place}
-use Rattle.heap_parts.proofs.PlaceLaws.{old-is_in, young-is_in, is_in-old}
-use Rattle.heap_parts.proofs.WriteWords.{shadow_first}
+use Rattle.frame_laws.proofs.Members.{each-left}
+use Rattle.frame_laws.proofs.MinorNeeds.{settled_place}
+use Rattle.frame_laws.proofs.PlaceLaws.{old-is_in, young-is_in, is_in-old}
+use Rattle.frame_laws.proofs.WriteWords.{shadow_first}
 use Rattle.heap_phases.specs.Ending.{registered_places}
 use Rattle.heap_phases.proofs.EndCalls.{MarksEnd, marking_blocks}
 use Rattle.heap_phases.proofs.EndCode.{clears}
