@@ -125,4 +125,4 @@ named-room most name pins (suc n) = refl
 
 -- at most 1,024 objects may be pinned
 pub pins_bounded : (heap : HeapParts) (root : ℕ) → AreReady heap (Pin root) → heap.setup.settings.pins ≤ 1024
-pins_bounded heap root ready = ready.standing.stands.made.ranges.1.1.1.1.1.1.1.1.1.1.1.1.1.0
+pins_bounded heap root ready = ready.standing.stands.made.ranges.2.2.2.2.2.2.1

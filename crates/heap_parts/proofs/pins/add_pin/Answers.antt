@@ -1,4 +1,4 @@
-use Rattle.std.proofs.Common.{◌==◌, ℕ, List, [], ◌∷◌, ◌++◌, position, sym, ap, ◌∙◌, arith}
+use Rattle.std.proofs.Common.{◌==◌, ℕ, List, position, sym, ap, ◌∙◌, arith}
 use Rattle.heap_parts.proofs.PinIndex.{IsPinAt, pin_at, not_pinned, more-at, read-count}
 use Rattle.heap_parts.proofs.pins.add_pin.Goals as goal
 
