@@ -1,5 +1,5 @@
 -- What calls on pins do.
-use Rattle.std.proofs.Common.{◌≡◌, ◌≢◌, ℕ, ◌<◌, Bool, true, false, List, [], ◌∷◌, Option, Some, refl, sym, ap, ap₂, ◌∙◌}
+use Rattle.std.proofs.Common.{◌≡◌, ◌≢◌, ℕ, Bool, true, false, List, [], ◌∷◌, Option, Some, refl, sym, ap, ap₂, ◌∙◌}
 use Rattle.std.specs.Prelude.{not, ◌&&◌}
 use Rattle.text_model.specs.declared.command.Command.TheVariants.{Pin, Unpin}
 use Rattle.text_model.specs.declared.line.Line.TheVariants.{PinIs}

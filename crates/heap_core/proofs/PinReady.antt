@@ -4,7 +4,7 @@ use Rattle.std.specs.Prelude.{not, ◌==◌, if◌then◌else◌}
 use Rattle.std.specs.List.{IsDistinct, AllByRecursion, All}
 use Rattle.std.proofs.lemmas.List.Elements.{All-head, All-tail}
 use Rattle.std.proofs.lemmas.Bool.{cases_Bool, eq-eqb, ne_eqb}
-use Rattle.std.proofs.lemmas.Bool.Decides.{eqb_tells, nat_tests}
+use Rattle.std.proofs.lemmas.Bool.Decides.{eqb_tells}
 use Rattle.text_model.specs.declared.command.Command.TheVariants.{Pin, Unpin}
 use Rattle.text_model.specs.declared.item.Reason.TheVariants.{NotPinned}
 use Rattle.text_model.specs.Range.{is_above}
