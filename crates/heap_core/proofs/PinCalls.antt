@@ -1,5 +1,5 @@
 -- What calls on pins do.
-use Rattle.std.proofs.Common.{◌≡◌, ◌≢◌, ℕ, ◌<◌, Bool, true, false, List, [], ◌∷◌, Option, Some, refl, sym, ap, ap₂, ◌∙◌}
+use Rattle.std.proofs.Common.{◌≡◌, ◌≢◌, ℕ, Bool, true, false, List, [], ◌∷◌, Option, Some, refl, sym, ap, ap₂, ◌∙◌}
 use Rattle.std.specs.Prelude.{not, ◌&&◌}
 use Rattle.text_model.specs.declared.command.Command.TheVariants.{Pin, Unpin}
 use Rattle.text_model.specs.declared.line.Line.TheVariants.{PinIs}
@@ -24,7 +24,7 @@ use Rattle.command_laws.proofs.UnpinStands.{unpin_stands}
 use Rattle.heap_core.specs.Commands.{AreReady, PartsDo}
 use Rattle.heap_core.specs.Pinning.{can_pin_in}
 use Rattle.heap_core.proofs.IdentityCalls.{is_settled-by}
-use Rattle.heap_core.proofs.PinReady.{pin_ready, unpin_ready, flag_ready, pinned_in, pins_differ, named-count, named-room, room-few}
+use Rattle.heap_core.proofs.PinReady.{pin_ready, unpin_ready, flag_ready, pinned_in, pins_differ, named-count, named-room}
 
 pub unpin_does : (heap : HeapParts) (root : ℕ) → AreReady heap (Unpin root) → PartsDo heap (without_pin heap (place_in heap root)) (Unpin root) []
 unfolding Does
@@ -87,9 +87,6 @@ pub pinnable : (heap : HeapParts) (root : ℕ) → can_pin_in heap root ≡ true
 pinnable heap root e =
     let one = and-true _ _ e in let two = and-true _ _ one.1 in
     record { young = one.0; bare = not-true _ two.0; room = two.1 }
-
-pub pin_few : (heap : HeapParts) (root : ℕ) → can_pin_in heap root ≡ true → pin_count heap.pins (place_in heap root) < 65535
-pin_few heap root e = room-few heap.setup.settings.pins heap.pins (pin_count heap.pins (place_in heap root)) (pinnable heap root e).room
 
 pub no_pin_does : (heap : HeapParts) (root : ℕ) → AreReady heap (Pin root) → can_pin_in heap root ≡ false → PartsDo heap heap (Pin root) (PinIs false ∷ [])
 unfolding Does

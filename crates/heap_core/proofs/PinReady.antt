@@ -4,7 +4,7 @@ use Rattle.std.specs.Prelude.{not, ◌==◌, if◌then◌else◌}
 use Rattle.std.specs.List.{IsDistinct, AllByRecursion, All}
 use Rattle.std.proofs.lemmas.List.Elements.{All-head, All-tail}
 use Rattle.std.proofs.lemmas.Bool.{cases_Bool, eq-eqb, ne_eqb}
-use Rattle.std.proofs.lemmas.Bool.Decides.{eqb_tells, nat_tests}
+use Rattle.std.proofs.lemmas.Bool.Decides.{eqb_tells}
 use Rattle.text_model.specs.declared.command.Command.TheVariants.{Pin, Unpin}
 use Rattle.text_model.specs.declared.item.Reason.TheVariants.{NotPinned}
 use Rattle.text_model.specs.Range.{is_above}
@@ -123,7 +123,6 @@ pub named-room : (most : ℕ) (name : ℕ → ℕ) (pins : List (ℕ × ℕ)) (n
 named-room most name pins zero = ap (λ (k : ℕ). nat_lt k most) (length-named name pins)
 named-room most name pins (suc n) = refl
 
--- where one more may be counted there are fewer than 65,535
-pub room-few : (most : ℕ) (pins : List (ℕ × ℕ)) (n : ℕ) → has_pin_room most pins n ≡ true → n < 65535
-room-few most pins zero e = omega arith
-room-few most pins (suc n) e = grind (arith, nat_tests)
+-- at most 1,024 objects may be pinned
+pub pins_bounded : (heap : HeapParts) (root : ℕ) → AreReady heap (Pin root) → heap.setup.settings.pins ≤ 1024
+pins_bounded heap root ready = ready.standing.stands.made.ranges.2.2.2.2.2.2.1

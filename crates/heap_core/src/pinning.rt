@@ -1,16 +1,15 @@
 //! Objects that may not move.
-ghost use Rattle.std.specs.Prelude.{◌≡◌, [], ◌∷◌, IsTrue, IfOk, IfErr, OnErr, Err};
+ghost use Rattle.std.specs.Prelude.{◌≡◌, [], ◌∷◌, IsTrue, IfOk, OnErr, Err};
 ghost use Rattle.text_model.specs.declared.command.Command.TheVariants.{Pin, Unpin};
 ghost use Rattle.text_model.specs.declared.line.Line.TheVariants.{PinIs};
 ghost use Rattle.store_model.specs.Identity.{can_refer as can_refer_of};
 ghost use Rattle.heap_core.specs.declared.fault.HeapFault.TheVariants.{Spent};
-ghost use Rattle.heap_core.specs.Commands.{AreReady, CanDo, PartsDo, Performs, done_unless, fault_of};
+ghost use Rattle.heap_core.specs.Commands.{AreReady, CanDo, PartsDo, Performs, done_unless};
 ghost use Rattle.heap_core.specs.Pinning.{can_pin_in};
 
 use crate::fault::HeapFault;
 use crate::heap::{Heap, State};
 use heap_parts::Parts;
-use std::alloc::AllocError;
 use type_table::Shape;
 
 // The place of the first word outside the nursery.
@@ -19,16 +18,16 @@ const FIRST_OLD: u64 = 4_294_967_296;
 impl Heap {
     /// Pins the object in a slot once more, and answers whether it did. It does not where the object is settled or of a type
     /// that can hold references, where it has 65,535 pins (a rule of this project), and where it has none and as many
-    /// objects are pinned as the setting `pins` says. After an error nothing is changed.
+    /// objects are pinned as the setting `pins` says. It does not allocate.
     pub fn pin(&mut self, root: u32) -> Result<bool, HeapFault>
         requires { CanDo self.old (Pin root) }
         ensures performs { IfOk result (λ yes. Performs self.old self.new (Pin root) [] (PinIs yes ∷ [])) }
         ensures err { OnErr result (self.new ≡ self.old) }
-        ensures cause { IfErr result (λ fault. fault ≡ fault_of self.old.is_spent) }
+        ensures cause { OnErr result (IsTrue self.old.is_spent) }
         ensures spent { IsTrue self.old.is_spent → result ≡ Err Spent }
     {
         match &mut self.state {
-            State::Started(parts) => Ok(pin_object(parts, root)?),
+            State::Started(parts) => Ok(pin_object(parts, root)),
             State::Closed | State::Spent => Err(HeapFault::Spent),
         }
     }
@@ -51,17 +50,16 @@ impl Heap {
 }
 
 /// Pins the object in a slot once more, if it can be.
-fn pin_object(parts: &mut Parts, root: u32) -> Result<bool, AllocError>
+fn pin_object(parts: &mut Parts, root: u32) -> bool
     requires { AreReady parts.old (Pin root) }
-    ensures does { IfOk result (λ yes. PartsDo parts.old parts.new (Pin root) (PinIs yes ∷ [])) }
-    ensures err { OnErr result (parts.new ≡ parts.old) }
+    ensures { PartsDo parts.old parts.new (Pin root) (PinIs result ∷ []) }
 {
     if may_pin(parts, root) {
         let place = parts.place(root);
-        parts.pin(place)?;
-        return Ok(true);
+        parts.pin(place);
+        return true;
     }
-    Ok(false)
+    false
 }
 
 /// Whether the object in a slot can be pinned once more.

@@ -1,6 +1,5 @@
 -- Where a pinned object stands in the list of pins, and what a pin more or less makes of the list.
-use Rattle.std.proofs.Common.{◌≡◌, ◌≢◌, Result, Ok, Err, OnErr, ap₂, ℕ, zero, suc, ◌+◌, ◌-◌, ◌<◌, ◌⊎◌, Bool, true, false, cond, not, nat_lt, List, [], ◌∷◌, ◌++◌, length, slice_index_or, slice_set, remove, position, Some, None, refl, sym, ap, ◌∙◌, subst, inl, inr, arith}
-use Rattle.std.specs.declared.alloc.AllocError.{AllocError}
+use Rattle.std.proofs.Common.{◌≡◌, ◌≢◌, ap₂, ℕ, zero, suc, ◌+◌, ◌-◌, ◌<◌, ◌⊎◌, Bool, true, false, cond, not, nat_lt, List, [], ◌∷◌, ◌++◌, length, slice_index_or, slice_set, remove, position, Some, None, refl, sym, ap, ◌∙◌, subst, inl, inr, arith}
 use Rattle.std.specs.Prelude.{◌==◌, if◌then◌else◌}
 use Rattle.std.specs.List.{position_or_len}
 use Rattle.std.proofs.lemmas.Bool.Decides.{eqb_tells, nat_tests}
@@ -98,10 +97,6 @@ not_pinned pins place e = elim (index-found pins place) [
       let some : Some (index pins place) ≡ None = sym (ap (λ (b : Bool). cond b (Some (index pins place)) None) yes) ∙ e in let no : ⊥ = cc in absurd no)
   | inr h ↦ h.1
 ]
-
-pub on_err : {P : Type 0} (r : Result (Unit {0}) AllocError) → P → OnErr r P
-on_err (Ok u) h = tt
-on_err (Err e) h = h
 
 -- one more is counted where it stands
 pub more-at : (pins : List (ℕ × ℕ)) (place i : ℕ) (e : ℕ × ℕ) → IsPinAt pins place i → e ≡ slice_index_or pins i e → slice_set pins i (e.0, e.1 + 1) ≡ pinned_more pins place

@@ -1,5 +1,5 @@
 //! The parts of a heap that starts, a few at a time.
-ghost use Rattle.std.specs.Prelude.{◌≡◌, ◌≤◌, ◌*◌, [], replicate, IfOk, vec_capacity};
+ghost use Rattle.std.specs.Prelude.{◌≡◌, ◌*◌, [], replicate, IfOk};
 ghost use Rattle.std.specs.FinMap as map_of;
 ghost use Rattle.heap_space.specs.Memory.{fresh_memory};
 ghost use Rattle.nursery_gaps.specs.Nursery.{unused};
@@ -10,6 +10,7 @@ ghost use Rattle.finalizer_order.specs.Finalizers.{no_finalizers};
 ghost use Rattle.remember_cards.specs.Remembered.{nothing_held};
 ghost use Rattle.remember_cards.specs.Remembering.{remembered_by};
 
+use crate::pins::Pins;
 use finalizer_order::Finals;
 use heap_space::Space;
 use mark_steps::Gray;
@@ -69,12 +70,11 @@ pub(crate) fn tables(alloc: Global) -> Result<(Shadows, Links, Gray), AllocError
 pub(crate) fn slots_and_pins(
     alloc: Global,
     settings: &Settings,
-) -> Result<(Vec<u64>, Vec<(u64, u64)>), AllocError>
+) -> Result<(Vec<u64>, Pins), AllocError>
     ensures slots { IfOk result (λ made. made.0.items ≡ replicate settings.now.roots 0) }
-    ensures pins { IfOk result (λ made. made.1.items ≡ []) }
-    ensures room { IfOk result (λ made. settings.now.pins ≤ vec_capacity made.1) }
+    ensures pins { IfOk result (λ made. made.1 ≡ []) }
 {
     let slots = vec![in alloc; 0; settings.roots as usize]?;
-    let pins = Vec::with_capacity(alloc, settings.pins as usize)?;
+    let pins = Pins::new(alloc)?;
     Ok((slots, pins))
 }

@@ -5,6 +5,7 @@ ghost use Rattle.object_model.specs.SettingRanges.{AreInRange};
 ghost use Rattle.heap_parts.specs.Parts.{AreFresh};
 
 use crate::empty_parts::{lists, slots_and_pins, tables, words};
+use crate::pins::Pins;
 use finalizer_order::Finals;
 use heap_space::Space;
 use mark_steps::Gray;
@@ -43,7 +44,7 @@ pub struct Parts {
     /// The place of the object in each root slot, 0 where it is empty.
     pub slots: Vec<u64>,
     /// The places of the pinned objects, each with how many times it is pinned.
-    pub pins: Vec<(u64, u64)>,
+    pub pins: Pins,
     pub phase: Phase,
     /// The old words at which a major step is due.
     pub threshold: u64,
@@ -88,7 +89,7 @@ impl Model for Parts {
       links = p.links;
       gray = p.gray;
       slots = p.slots.items;
-      pins = p.pins.items;
+      pins = p.pins;
       phase = p.phase;
       threshold = p.threshold;
       next = p.next;

@@ -6,13 +6,13 @@ use Rattle.heap_core.specs.declared.heap.Heap.TheInside.{Inside}
 use Rattle.heap_core.specs.declared.heap.State.TheVariants.{Started}
 use Rattle.heap_core.proofs.Calls.{in_state, performs_started}
 use Rattle.heap_core.proofs.heap.Heap.pin.Goals as goal
-use Rattle.heap_core.proofs.heap.Heap.pin.Goals.{in-Started+in_ok-pin_object-in-Started, in-Closed, in-Closed-2}
+use Rattle.heap_core.proofs.heap.Heap.pin.Goals.{in-Started, in-Closed, in-Closed-2}
 
 pub returns-clause-performs : goal.returns-clause-performs
 returns-clause-performs c = elim c.match-self.branch [
-  | in-Started+in_ok-pin_object-in-Started w ↦ rw w.result-is (performs_started c.args.self.now _ w.in-Started.parts w.pin_object.new.parts (Pin c.args.root) [] (PinIs w.in_ok-pin_object-in-Started.field-0 ∷ [])
+  | in-Started w ↦ rw w.result-is (performs_started c.args.self.now _ w.in-Started.parts w.pin_object.new.parts (Pin c.args.root) [] (PinIs w.pin_object.result ∷ [])
       (in_state c.args.self.now c.self.inside.state (Started w.in-Started.parts) c.self.view_is w.in-Started.is)
-      (ap (λ (i : Inside). seen i.state) w.self-inside-is) w.in_ok-pin_object-in-Started.ensures.does)
+      (ap (λ (i : Inside). seen i.state) w.self-inside-is) w.pin_object.ensures)
   | in-Closed w ↦ rw w.result-is tt
   | in-Closed-2 w ↦ rw w.result-is tt
 ]

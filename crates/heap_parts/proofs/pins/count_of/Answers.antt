@@ -1,6 +1,6 @@
 use Rattle.std.proofs.Common.{sym, ◌∙◌}
 use Rattle.heap_parts.proofs.PinIndex.{pin_at, not_pinned}
-use Rattle.heap_parts.proofs.pinning.count.Goals as goal
+use Rattle.heap_parts.proofs.pins.count_of.Goals as goal
 
 pub returns-in-None : goal.returns-in-None
 returns-in-None c = sym (not_pinned c.args.pins.now c.args.place (sym c.pin_index.ensures ∙ c.in-None.is)).counted

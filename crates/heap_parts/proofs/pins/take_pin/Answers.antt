@@ -1,6 +1,6 @@
 use Rattle.std.proofs.Common.{◌==◌, ◌-◌, ℕ, List, position, sym, ap, ◌∙◌, arith}
 use Rattle.heap_parts.proofs.PinIndex.{IsPinAt, pin_at, not_pinned, less-at, read-key, read-count}
-use Rattle.heap_parts.proofs.pinning.take_pin.Goals as goal
+use Rattle.heap_parts.proofs.pins.take_pin.Goals as goal
 
 pub returns-in_default-clause-left : goal.returns-in_default-clause-left
 returns-in_default-clause-left c =
