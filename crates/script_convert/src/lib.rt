@@ -1,0 +1,9 @@
+//! A script is written in the other form: each item that is not blank as its record or as its line. (This project's own.)
+#![tactic(auto)]
+
+mod end;
+mod records;
+mod write;
+
+pub use end::ConvertEnd;
+pub use records::lines_of_records;
