@@ -2,8 +2,10 @@
 #![tactic(auto)]
 
 mod end;
+mod lines;
 mod records;
 mod write;
 
 pub use end::ConvertEnd;
+pub use lines::records_of_lines;
 pub use records::lines_of_records;
