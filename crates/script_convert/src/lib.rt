@@ -2,10 +2,12 @@
 #![tactic(auto)]
 
 mod end;
+mod form;
 mod lines;
 mod records;
 mod write;
 
 pub use end::ConvertEnd;
+pub use form::convert;
 pub use lines::records_of_lines;
 pub use records::lines_of_records;

@@ -25,7 +25,11 @@ pub(crate) fn write_all<K: Sink>(out: &mut K, piece: &[u8]) -> Result<(), Failed
 }
 
 /// Writes the line of an item. What `text` held is gone.
-pub(crate) fn write_line<K: Sink>(item: &Item, text: &mut Vec<u8>, out: &mut K) -> Result<(), ConvertEnd>
+pub(crate) fn write_line<K: Sink>(
+    item: &Item,
+    text: &mut Vec<u8>,
+    out: &mut K,
+) -> Result<(), ConvertEnd>
     requires { HasLine item.now }
     ensures writes { WritesItem (K.written out.old) (K.written out.new) (item_line item.now) result }
     ensures later { K.faults out.old ≤ K.faults out.new }
