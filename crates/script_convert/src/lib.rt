@@ -11,3 +11,6 @@ pub use end::ConvertEnd;
 pub use form::convert;
 pub use lines::records_of_lines;
 pub use records::lines_of_records;
+
+#[cfg(test)]
+mod tests;
