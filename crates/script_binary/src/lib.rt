@@ -16,8 +16,8 @@ mod units;
 pub use encode::encode_item;
 pub use end::BinEnd;
 pub use reader::BinReader;
-pub use units::says_its_items;
 pub use text_model::{Command, Item};
+pub use units::says_its_items;
 
 #[cfg(test)]
 mod tests;

@@ -9,5 +9,4 @@ ghost use Rattle.script_binary.specs.Fields.{AreEncoded};
 pub fn says_its_items()
     ensures { (items : List Item) → length items ≤ 16000000 → AreEncoded items
         → units_of (binary_script items) ≡ map (λ item. Ok (Some item)) items ++ Ok None ∷ [] }
-{
-}
+{}

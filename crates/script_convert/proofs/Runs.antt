@@ -1,20 +1,14 @@
 -- A conversion so far, and how it goes on and ends.
-use Rattle.std.proofs.Common.{◌≡◌, ℕ, ◌+◌, ◌<◌, Bool, true, false, List, [], ◌∷◌, ◌++◌, length, Option, Some, None, Result, Ok, Err, refl, sym, ap, ◌∙◌, subst, inl, inr, arith, append_assoc, append-nil, length-append}
-use Rattle.std.specs.Prelude.{⊤, IfSome}
-use Rattle.std.specs.Io.KnownBytes.{Appends, Consumes, Keeps, IsAtEnd, prepend_known}
-use Rattle.std.proofs.KnownBytes.{Appends-trans, Appends-nil, Appends-kept, Consumes-nil, Consumes-trans}
+use Rattle.std.proofs.Common.{◌≡◌, ℕ, ◌+◌, List, [], ◌∷◌, ◌++◌, length, Option, Some, None, Ok, refl, sym, ap, ◌∙◌, subst, append_assoc, append-nil, length-append}
+use Rattle.std.specs.Prelude.{IfSome}
+use Rattle.std.specs.Io.KnownBytes.{Appends, Consumes, IsAtEnd, prepend_known}
+use Rattle.std.proofs.KnownBytes.{Appends-trans, Appends-nil, Consumes-nil, Consumes-trans}
 use Rattle.text_model.specs.declared.item.Item.{Item}
-use Rattle.text_model.specs.declared.item.Reason.{Reason}
-use Rattle.text_model.specs.declared.item.Reason.TheVariants as reason
 use Rattle.text_model.specs.ItemLine.{HasLine}
 use Rattle.text_model.specs.Binary.{item_record, items_records, end_record}
-use Rattle.script_binary.specs.declared.end.BinEnd.{BinEnd}
-use Rattle.script_binary.specs.declared.end.BinEnd.TheVariants as bin
-use Rattle.script_binary.specs.Reader.{BinState, ahead, HandsOut, Reads, unit_number}
-use Rattle.script_convert.specs.declared.end.ConvertEnd.{ConvertEnd}
-use Rattle.script_convert.specs.declared.end.ConvertEnd.TheVariants.{Malformed, ReadFault, WriteFault, OutOfMemory}
-use Rattle.script_convert.specs.Written.{item_line, items_lines, WritesItem}
-use Rattle.script_convert.specs.Ends.{end_of_records, HaveLines, Wrote, EndsRecords}
+use Rattle.script_binary.specs.Reader.{BinState, ahead, HandsOut, Reads}
+use Rattle.script_convert.specs.Written.{item_line, items_lines}
+use Rattle.script_convert.specs.Ends.{HaveLines, Wrote, EndsRecords}
 
 -- The items so far, as many as the reader handed out.
 pub record RunsOn (script here before written : Option (List ℕ)) (count : ℕ) : Type 0 where

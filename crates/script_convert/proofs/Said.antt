@@ -1,14 +1,11 @@
 -- What a line says, and its record.
-use Rattle.std.proofs.Common.{◌≡◌, ℕ, ◌<◌, ◌≤◌, List, length, Option, Result, Ok, Err, refl, sym, ap, ◌∙◌, subst, arith}
-use Rattle.std.specs.Io.KnownBytes.{Appends, Keeps}
-use Rattle.std.proofs.KnownBytes.{Appends-nil, Keeps-refl}
+use Rattle.std.proofs.Common.{◌≡◌, ℕ, ◌≤◌, List, length, Option, Result, Ok, Err, refl}
 use Rattle.std.proofs.lemmas.Bool.{le-ltb}
 use Rattle.text_model.specs.declared.item.Item.{Item}
 use Rattle.text_model.specs.declared.item.Item.TheVariants.{Blank, Setting, TypeDef, Command as CommandItem}
-use Rattle.text_model.specs.declared.item.BadLine.{BadLine}
 use Rattle.text_model.specs.Grammar.{item_of}
 use Rattle.text_model.specs.ItemLine.{HasLine, IsLineOf}
-use Rattle.text_model.specs.Script.{reading, as_reading, bad_reason}
+use Rattle.text_model.specs.Script.{reading, as_reading}
 use Rattle.text_model.specs.Binary.{item_record}
 use Rattle.script_convert.specs.declared.end.ConvertEnd.{ConvertEnd}
 use Rattle.script_convert.specs.declared.end.ConvertEnd.TheVariants.{Malformed, ReadFault, WriteFault, OutOfMemory}

@@ -1,6 +1,6 @@
 -- What a conversion left, by its answer.
-use Rattle.std.specs.Prelude.{◌≡◌, ℕ, ⊤, List, [], ◌⊎◌, drop, Bool, true, false, Option, Some, None, Result, Ok, Err}
-use Rattle.std.specs.Io.KnownBytes.{Appends, Consumes, Keeps}
+use Rattle.std.specs.Prelude.{◌≡◌, ℕ, ⊤, List, ◌⊎◌, drop, Bool, true, false, Option, Some, None, Result, Ok, Err}
+use Rattle.std.specs.Io.KnownBytes.{Appends, Keeps}
 use Rattle.text_model.specs.Binary.{begins_binary, binary_mark, end_record}
 use Rattle.script_text.specs.Mark.{BreaksMark}
 use Rattle.script_convert.specs.declared.end.ConvertEnd.{ConvertEnd}

@@ -2,7 +2,7 @@
 use Rattle.std.specs.Prelude.{◌≡◌, ℕ, ◌+◌, ⊤, List, [], ◌∷◌, ◌++◌, length, map, Option, Some, None, Result, Ok, Err}
 use Rattle.std.specs.Io.KnownBytes.{Appends, Consumes, Keeps, IsAtEnd}
 use Rattle.text_model.specs.declared.item.Item.{Item}
-use Rattle.text_model.specs.declared.item.Item.TheVariants.{Blank, Setting, TypeDef, Command as CommandItem}
+use Rattle.text_model.specs.declared.item.Item.TheVariants.{Blank}
 use Rattle.text_model.specs.declared.item.Reason.{Reason}
 use Rattle.text_model.specs.declared.item.Reason.TheVariants as reason
 use Rattle.text_model.specs.Lines.{lines_of, whole_lines_of}

@@ -1,6 +1,6 @@
 use Rattle.std.proofs.Common.{take, arith}
 use Rattle.std.specs.Io.KnownBytes.{prepend_known}
-use Rattle.script_convert.proofs.RunsLines.{runs_from, runs_on, ends_done, ends_reading, ends_line}
+use Rattle.script_convert.proofs.RunsLines.{runs_from, runs_on, ends_done, ends_reading}
 use Rattle.script_convert.proofs.lines.records_of_lines.Goals as goal
 
 pub lines-init : goal.lines-init

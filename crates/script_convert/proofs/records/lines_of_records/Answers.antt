@@ -1,4 +1,4 @@
-use Rattle.std.proofs.Common.{sym, ◌∙◌, arith}
+use Rattle.std.proofs.Common.{◌∙◌, arith}
 use Rattle.std.specs.Io.KnownBytes.{prepend_known}
 use Rattle.script_convert.proofs.Runs.{runs_on, ends_done}
 use Rattle.script_convert.proofs.records.lines_of_records.Goals as goal
