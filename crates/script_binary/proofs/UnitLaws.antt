@@ -1,16 +1,11 @@
 -- What a binary script of items says.
-use Rattle.std.proofs.Common.{◌≡◌, ℕ, zero, suc, ◌+◌, ◌<◌, ◌≤◌, Bool, true, false, List, [], ◌∷◌, ◌++◌, length, drop, map, Option, Some, None, Result, Ok, Err, refl, sym, ap, ◌∙◌, subst, arith, append_assoc, length-append}
-use Rattle.std.specs.Prelude.{nat_lt, ◌==◌}
+use Rattle.std.proofs.Common.{◌≡◌, ℕ, zero, suc, ◌+◌, ◌<◌, ◌≤◌, List, [], ◌∷◌, ◌++◌, length, map, Some, None, Ok, refl, ap, ◌∙◌, arith, append_assoc, length-append}
 use Rattle.std.proofs.lemmas.Bool.{ne_eqb, le-ltb}
 use Rattle.text_model.specs.declared.item.Item.{Item}
-use Rattle.text_model.specs.declared.item.Item.TheVariants.{Blank}
-use Rattle.text_model.specs.declared.item.BadLine.{BadLine}
-use Rattle.text_model.specs.declared.item.BadLine.TheVariants as bad
-use Rattle.text_model.specs.ItemLine.{HasLine}
 use Rattle.text_model.specs.Binary.{item_fields, numbers_bytes, item_record, items_records, end_record, binary_mark, binary_script}
-use Rattle.text_model.specs.BinaryReading.{count_of, body_at, record_at, unit_at}
-use Rattle.text_model.specs.Units.{Said, said_by, records_said, units_of}
-use Rattle.script_binary.specs.Fields.{AreWords, IsEncoded, AreEncoded}
+use Rattle.text_model.specs.BinaryReading.{count_of, body_at, unit_at}
+use Rattle.text_model.specs.Units.{Said, records_said, units_of}
+use Rattle.script_binary.specs.Fields.{IsEncoded, AreEncoded}
 use Rattle.script_binary.proofs.Again.{record_again}
 
 -- no item has the tag of the end

@@ -1,0 +1,4 @@
+pub mod Convert
+pub mod Ends
+pub mod EndsLines
+pub mod Written
