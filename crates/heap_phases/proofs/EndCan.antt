@@ -67,7 +67,7 @@ module _ (heap : HeapParts) (store : Store) (s : PartsStandFor heap store) (save
     headed = Each-join (IsHeaded m) (map (block_at heap.setup.types (word_in heap)) (old_places s.places)) _
         (each-of-places (IsHeaded m) (block_at heap.setup.types (word_in heap)) (old_places s.places) old-headed)
         (each-of-homes (IsHeaded m) heap.setup.types w (home_in heap) (young_places s.places) (λ a n t. let k = (s.headers.shadow.each a t).live in let same = marks.heads.shadow a t in
-            record { header = subst IsHeader (sym same) k.header; live = ap (λ (x : ℕ). has_flag x Free) same ∙ k.not_free }));
+        record { header = subst IsHeader (sym same) k.header; live = ap (λ (x : ℕ). has_flag x Free) same ∙ k.not_free }));
   }
 
 -- What is known in the middle of the end of marking: some were chosen, and the dead are listed.

@@ -149,7 +149,7 @@ module _ (heap : HeapParts) (marking : heap.phase ≡ Marking) (gray : heap.gray
         let husks = husks_are heap store s marking one.memory saved marks dead are-dead three.husk_list
         (subst (λ (k : Memory). AreHusks k dead three.husk_list) (ap (λ (h : HeapParts). h.memory) two-is) becomes.husks) in
         let same : three ≡ marked_parts heap three.memory three.old_blocks (λ p. is_condemned store saved (s.name p)) (λ p. is_in (s.name p) (found_births store))
-            (map (husk_at heap.setup.types (word_in heap)) (losing (is_condemned store saved) s.name s.places)) (with_chosen_births heap.finals (λ x. is_in x (found_births store))) =
+        (map (husk_at heap.setup.types (word_in heap)) (losing (is_condemned store saved) s.name s.places)) (with_chosen_births heap.finals (λ x. is_in x (found_births store))) =
         left-parts ∙ (parts_agree heap three.memory three.old_blocks gone_places (λ p. is_condemned store saved (s.name p)) ch.taken (λ p. is_in (s.name p) (found_births store)) three.husk_list one.finals
         (λ p t. agrees p (old-is_in s.places p (s.remembered.there p t)).0)
         (λ p t. agrees p (weak_there heap store s p t).0)

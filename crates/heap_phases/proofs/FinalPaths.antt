@@ -155,14 +155,17 @@ module _ (heap : HeapParts) (store : Store) (s : PartsStandFor heap store) (pinn
       let white : is_white store (s.name k.by) ≡ true = sym (white_now k.by there) ∙ and_second (is_in k.by (registered_places heap)) _ k.dying in
       let path = path_of k.by q there k.reaches in
       let end = path-ends k.by path.0 q there white path.1 in
-      let old = is_in-old s.places q end.0 (white-old q end.0 end.1) in
-      (old, end.1, (place_saved heap store s pinned marked q old end.1).1 (record {
-        place = k.by;
-        registered = reg;
-        old = is_in-old s.places k.by there (white-old k.by there white);
-        dying = white;
-        path = path;
-      }))
+      let old = is_in-old s.places q end.0 (white-old q end.0 end.1) in (
+        old,
+        end.1,
+        (place_saved heap store s pinned marked q old end.1).1 (record {
+          place = k.by;
+          registered = reg;
+          old = is_in-old s.places k.by there (white-old k.by there white);
+          dying = white;
+          path = path;
+        }),
+      )
 
   pub saved_kept : (q : ℕ) → IsTrue (is_in q (old_places s.places)) → is_white store (s.name q) ≡ true → IsSaved store (s.name q) → choosing.IsKept types n (word_at m.blocks) (registered_places heap) q
   saved_kept q old white saved =

@@ -255,9 +255,9 @@ module _ (heap : HeapParts) (store : Store) (s : PartsStandFor heap store) (pinn
         let places-differ : AreDifferent s.places = names_differ s.name s.places (rise-differ 1 heap.next (map s.name s.places) s.births.rise) in
         let same : IsPermutation (filter keeps s.places) k.places = same_members (filter keeps s.places) k.places (part_differs keeps s.places places-differ) differ
         (λ q t. let part = filter-part keeps s.places q t in
-            let z = saved_kept heap store s pinned marked marking m changes q (is_in-old s.places q part.0 (white-old q part.0 (and_first (is_white store (s.name q)) (saved (s.name q)) part.1)))
-            (and_first (is_white store (s.name q)) (saved (s.name q)) part.1) ((tells (s.name q)).0 (and_second (is_white store (s.name q)) (saved (s.name q)) part.1)) in
-            (k.just q).1 z)
+        let z = saved_kept heap store s pinned marked marking m changes q (is_in-old s.places q part.0 (white-old q part.0 (and_first (is_white store (s.name q)) (saved (s.name q)) part.1)))
+        (and_first (is_white store (s.name q)) (saved (s.name q)) part.1) ((tells (s.name q)).0 (and_second (is_white store (s.name q)) (saved (s.name q)) part.1)) in
+        (k.just q).1 z)
         (λ q t. let old = kept_old q t in filter-member keeps s.places q (old-is_in s.places q old).0 (sym (kept_is q old) ∙ t)) in
         let read : map (λ p. word_at m.blocks (p + 1)) k.places ≡ map (λ p. w (p + 1)) k.places =
         map-same (λ p. word_at m.blocks (p + 1)) (λ p. w (p + 1)) k.places (λ p t. birth-stays p (old-is_in s.places p (kept_old p t)).0) in
