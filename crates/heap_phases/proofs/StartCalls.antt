@@ -52,7 +52,7 @@ roots_listed heap gray second gray2 gray3 chosen queued can a b c d e =
     let waiting : second ≡ flat_map (λ (q : ℕ × List ℕ). q.1) heap.queues ++ forced_objects heap.links.structs =
     c ∙ ap₂ (λ (xs ys : List ℕ). (xs ++ ys) ++ forced_objects heap.links.structs) b (a ∙ none) ∙ ap (λ (xs : List ℕ). xs ++ forced_objects heap.links.structs) (append-nil (flat_map (λ (q : ℕ × List ℕ). q.1) heap.queues)) in
     let rest : old_places (map (λ (x : ℕ × ℕ). x.0) heap.pins ++ (map (λ (x : ℕ × ℕ). x.0) heap.chosen ++ (flat_map (λ (q : ℕ × List ℕ). q.1) heap.queues ++ forced_objects heap.links.structs)))
-        ≡ old_places (flat_map (λ (q : ℕ × List ℕ). q.1) heap.queues ++ forced_objects heap.links.structs) =
+    ≡ old_places (flat_map (λ (q : ℕ × List ℕ). q.1) heap.queues ++ forced_objects heap.links.structs) =
     filter-append test (pinned_places heap) _ ∙ (ap (λ (xs : List ℕ). xs ++ old_places (map (λ (x : ℕ × ℕ). x.0) heap.chosen ++ (flat_map (λ (q : ℕ × List ℕ). q.1) heap.queues ++ forced_objects heap.links.structs))) can.pins
     ∙ ap (λ (xs : List ℕ). old_places (xs ++ (flat_map (λ (q : ℕ × List ℕ). q.1) heap.queues ++ forced_objects heap.links.structs))) none) in
     e ∙ (ap₂ (λ (xs ys : List ℕ). xs ++ old_places ys) d waiting ∙ (append_assoc gray (old_places heap.slots) _

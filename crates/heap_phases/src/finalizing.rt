@@ -9,11 +9,11 @@ ghost use Rattle.heap_phases.specs.Steps.{CanStep, CountsHusks};
 
 use crate::StepEnd;
 use crate::dead::birth_at;
-use heap_space::Space;
-use type_table::TypeTable;
 use heap_parts::Parts;
+use heap_space::Space;
 use std::alloc::AllocError;
 use text_model::{Line, Phase};
+use type_table::TypeTable;
 
 /// The cycle ends: chosen objects enter their queues, and the threshold of the next one is set.
 pub(crate) fn finalize(
