@@ -11,7 +11,7 @@ use heap_parts::Parts;
 use std::alloc::AllocError;
 
 impl Heap {
-    /// Registers the object in a slot with a queue, as PyPy's `may_register_rpython_finalizer` does. Once marking found that no
+    /// Registers the object in a slot with a queue, as PyPy's `register_finalizer` does. Once marking found that no
     /// root reaches it, it enters the queue, and when it has left the queue it may be registered again. After an error nothing is
     /// changed.
     pub fn register(&mut self, root: u32, queue: u64) -> Result<(), HeapFault>
