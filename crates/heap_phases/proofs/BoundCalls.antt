@@ -1,13 +1,13 @@
 -- What else holds of steps, as the code does them.
-use Rattle.std.proofs.Common.{◌≡◌, ℕ, ◌+◌, [], refl, sym, ◌∙◌, ap, subst}
+use Rattle.std.proofs.Common.{◌≡◌, ℕ, ◌+◌, refl, sym, ◌∙◌, subst}
 use Rattle.std.specs.Prelude.{◌↔◌, min}
 use Rattle.old_space.specs.Sweeping.{units_left}
 use Rattle.sweep_steps.specs.declared.SweepState.{SweepState}
 use Rattle.sweep_steps.specs.declared.SweepState.TheVariants.{Working, Finished}
 use Rattle.text_model.specs.declared.line.Phase.{Phase}
-use Rattle.text_model.specs.declared.line.Phase.TheVariants.{Sweeping, Finalizing}
+use Rattle.text_model.specs.declared.line.Phase.TheVariants.{Finalizing}
 use Rattle.store_model.specs.Store.{Store}
-use Rattle.store_model.specs.Sound.{AreGone, IsPhaseSound}
+use Rattle.store_model.specs.Sound.{IsPhaseSound}
 use Rattle.heap_parts.specs.Parts.{HeapParts}
 use Rattle.heap_parts.specs.Collects.{IsCollected}
 use Rattle.heap_phases.specs.Bounds.{SweepsUnits, LeavesNone}

@@ -8,15 +8,15 @@ use Rattle.type_table.specs.Table.{Table, value_at, with_value}
 use Rattle.heap_space.specs.Memory.{Memory}
 use Rattle.finalizer_order.specs.declared.entry.Entry.{Entry}
 use Rattle.finalizer_order.specs.Finalizers.{Finalizers, placed, placed_queues, places_of, queued_entries}
-use Rattle.finalizer_order.specs.Choosing.{Chooses, Keeps, IsChosen, with_chosen}
+use Rattle.finalizer_order.specs.Choosing.{Chooses, Keeps, IsChosen}
 use Rattle.finalizer_order.specs.Queues as entry_queues
 use Rattle.text_model.specs.declared.line.Line.{Line}
 use Rattle.text_model.specs.declared.line.Line.TheVariants.{Kept}
 use Rattle.store_model.specs.Sweeping.{queues_with}
-use Rattle.heap_parts.specs.NamedFinals.{NamedFinals, births_told}
+use Rattle.heap_parts.specs.NamedFinals.{births_told}
 use Rattle.heap_parts.specs.Parts.{HeapParts, word_in}
 use Rattle.heap_parts.proofs.QueueTables.{told_queues, value-told, with-told}
-use Rattle.heap_phases.specs.Ending.{ChoosesFinals, registered_places, named_entry}
+use Rattle.heap_phases.specs.Ending.{ChoosesFinals, named_entry}
 
 filter-read : {X Y : Type 0} (f : X → Y) (test : Y → Bool) (xs : List X) → map f (filter (λ x. test (f x)) xs) ≡ filter test (map f xs)
 filter-read f test [] = refl

@@ -1,6 +1,6 @@
 -- What the passes over the dying objects choose is what the store chooses.
 use Rattle.std.proofs.Common.{◌≡◌, ◌≢◌, ℕ, Bool, true, false, IsTrue, List, [], ◌∷◌, ◌++◌, map, refl, sym, ap, ap₂, ◌∙◌, subst, inl, inr}
-use Rattle.std.specs.Prelude.{not, filter, ◌==◌, ◌&&◌, ◌||◌, IsFalse, cond, take_while}
+use Rattle.std.specs.Prelude.{not, filter, ◌==◌, ◌||◌, IsFalse, cond, take_while}
 use Rattle.std.proofs.lemmas.Bool.{cases_Bool, eq-eqb, ne_eqb}
 use Rattle.std.proofs.lemmas.Bool.Decides.{eqb_tells}
 use Rattle.std.proofs.lemmas.List.Sums.{take_while-cons}

@@ -23,13 +23,11 @@ use Rattle.object_view.proofs.LayoutLaws.{laid_out, info_at-same}
 use Rattle.old_space.proofs.SweepLaws.{filter-none}
 use Rattle.text_model.specs.declared.line.Phase.TheVariants.{Marking}
 use Rattle.store_model.specs.Store.{Store}
-use Rattle.store_model.specs.Marking.{IsMarked, is_white, is_condemned}
-use Rattle.weak_lists.specs.Targets.{ChangesTargets, kept_target}
+use Rattle.store_model.specs.Marking.{is_white, is_condemned}
 use Rattle.heap_parts.specs.Parts.{HeapParts, word_in, home_in}
 use Rattle.heap_parts.specs.Places.{is_young, young_places, old_places, block_at, RiseBetween}
 use Rattle.heap_parts.specs.OldSpace.{reserved_blocks, husk_at}
 use Rattle.heap_parts.specs.StandsFor.{PartsStandFor}
-use Rattle.heap_parts.specs.Collects.{AreAllPinned}
 use Rattle.frame_laws.proofs.Filters.{filter_at}
 use Rattle.frame_laws.proofs.MinorNeeds.{settled_place}
 use Rattle.frame_laws.proofs.PlaceLaws.{young-is_in, old-is_in, is_in-young, is_in-old}
@@ -44,7 +42,6 @@ use Rattle.heap_phases.proofs.EndLines.{SortsBirths}
 use Rattle.heap_phases.proofs.EndLists.{rise_filtered}
 use Rattle.heap_phases.proofs.EndWords.{losing, losing_old}
 use Rattle.heap_phases.proofs.HuskTable.{same_table}
-use Rattle.heap_phases.proofs.PlacePaths.{white_flag}
 use Rattle.heap_phases.proofs.SweepWords.{each-of-homes}
 
 filter-two : (f g : ℕ → Bool) (ps : List ℕ) → filter (λ p. f p && g p) ps ≡ filter g (filter f ps)

@@ -1,12 +1,12 @@
 -- What the calls at the end of marking ask for, and the words of the new husks.
-use Rattle.std.proofs.Common.{◌≡◌, ℕ, ◌<◌, ◌^◌, ◌+◌, ◌≤◌, Bool, false, IsTrue, List, [], ◌++◌, map, sym, ap, ◌∙◌, subst, arith, inl, inr}
-use Rattle.std.specs.Prelude.{IsSome, sum_by, ◌%◌}
+use Rattle.std.proofs.Common.{◌≡◌, ℕ, ◌<◌, ◌^◌, Bool, IsTrue, List, [], ◌++◌, map, sym, ap, ◌∙◌, subst, arith, inl, inr}
+use Rattle.std.specs.Prelude.{IsSome, sum_by}
 use Rattle.std.proofs.lemmas.Bool.{cases_Bool}
 use Rattle.type_table.specs.declared.info.TypeInfo.{TypeInfo}
 use Rattle.type_table.specs.Table.{Table, value_at}
 use Rattle.heap_space.specs.Places.{word_at, lies_in_one}
 use Rattle.heap_space.specs.Memory.{Memory}
-use Rattle.heap_space.specs.Extents.{Extent, Each}
+use Rattle.heap_space.specs.Extents.{Extent}
 use Rattle.heap_space.proofs.ExtentLaws.{Each-join}
 use Rattle.object_header.specs.Words.{IsHeader, has_flag}
 use Rattle.object_header.specs.declared.flags.Flag.TheVariants.{Free, Visited}
@@ -35,7 +35,7 @@ use Rattle.heap_parts.specs.StandsFor.{PartsStandFor}
 use Rattle.heap_parts.specs.Collects.{AreAllPinned}
 use Rattle.heap_parts.proofs.BlockLaws.{each-member}
 use Rattle.frame_laws.proofs.Members.{each-left}
-use Rattle.frame_laws.proofs.PlaceLaws.{placed_words, old-is_in}
+use Rattle.frame_laws.proofs.PlaceLaws.{placed_words}
 use Rattle.heap_phases.specs.Steps.{CountsHusks}
 use Rattle.heap_phases.specs.Ending.{CanEnd, EndsMajor, ClearsWeaks, AreDead, AreDestroyed, AreHusks, BecomesHusks, HoldObjects, without_places, places_in, cut_lines}
 use Rattle.heap_phases.proofs.DeadCalls.{each_permuted}

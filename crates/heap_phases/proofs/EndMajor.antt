@@ -1,23 +1,14 @@
 -- The end of marking, as the code does it.
-use Rattle.std.proofs.Common.{◌≡◌, ℕ, ◌+◌, Bool, true, false, IsTrue, List, [], ◌++◌, map, append-nil, append_assoc, refl, sym, ap, ap₂, ◌∙◌, subst, arith}
+use Rattle.std.proofs.Common.{◌≡◌, ℕ, Bool, IsTrue, List, [], ◌++◌, map, append_assoc, sym, ap, ap₂, ◌∙◌, subst}
 use Rattle.std.specs.Prelude.{not, filter, ◌&&◌, option_and_then, Some}
-use Rattle.std.specs.List.Sorted.{IsPermutation}
 use Rattle.type_table.specs.Table.{Table, KeysRise, value_at}
-use Rattle.heap_space.specs.Places.{word_at}
 use Rattle.heap_space.specs.Memory.{Memory}
 use Rattle.heap_space.specs.Extents.{Extent}
-use Rattle.object_header.specs.Words.{has_flag}
-use Rattle.object_header.specs.declared.flags.Flag.TheVariants.{Visited}
-use Rattle.object_header.proofs.WordLaws.{with_flag-stays}
 use Rattle.object_model.specs.Sets.{is_in}
-use Rattle.object_model.proofs.Members.{is_in-nil, and_first}
 use Rattle.old_space.specs.declared.Old.{Old}
 use Rattle.old_space.specs.HasBlocks.{HasBlocks, greatest_small}
-use Rattle.old_space.specs.Headers.{HasHeaders}
 use Rattle.heap_space.specs.Extents.{KeepsWords, KeepsOutside}
-use Rattle.std.proofs.lemmas.List.Sorted.{IsPermutation-refl}
 use Rattle.store_model.specs.Structs.{object_of}
-use Rattle.frame_laws.proofs.Filters.{filter_none}
 use Rattle.text_model.specs.declared.line.Line.{Line}
 use Rattle.text_model.specs.declared.line.Line.TheVariants.{Cleared, Kept, Destroyed, LinkCut}
 use Rattle.text_model.specs.declared.line.LinkEnd.{LinkEnd}
@@ -25,29 +16,25 @@ use Rattle.text_model.specs.declared.line.Phase.TheVariants.{Marking, Sweeping}
 use Rattle.store_model.specs.Store.{Store}
 use Rattle.store_model.specs.Links.{link_ends}
 use Rattle.store_model.specs.Marking.{IsMarked, is_white, is_condemned}
-use Rattle.store_model.specs.Reach.{is_registered}
 use Rattle.store_model.proofs.TestsExist.{saved_test}
 use Rattle.store_model.proofs.ChosenTest.{found_births}
 use Rattle.heap_parts.specs.NamedFinals.{NamedFinals}
 use Rattle.heap_parts.specs.Parts.{HeapParts, word_in}
 use Rattle.heap_parts.specs.OldSpace.{husk_at}
-use Rattle.heap_parts.specs.Lists.{named_entries}
 use Rattle.heap_parts.specs.StandsFor.{PartsStandFor}
 use Rattle.heap_parts.specs.Collects.{AreAllPinned}
 use Rattle.birth_laws.proofs.BirthNames.{rises-unnamed}
-use Rattle.frame_laws.proofs.PlaceLaws.{young-is_in, old-is_in}
+use Rattle.frame_laws.proofs.PlaceLaws.{old-is_in}
 use Rattle.heap_phases.specs.EndOfMarking.{marked_parts, with_chosen_births}
-use Rattle.heap_phases.specs.Ending.{EndsMajor, ClearsWeaks, AreDead, AreDestroyed, AreHusks, BecomesHusks, places_in, without_places, cut_lines, with_memory}
+use Rattle.heap_phases.specs.Ending.{EndsMajor, ClearsWeaks, AreDead, AreDestroyed, AreHusks, BecomesHusks, places_in, without_places, cut_lines}
 use Rattle.heap_phases.proofs.ClearCalls.{weak_there}
 use Rattle.heap_phases.proofs.DeadPlaces.{dead_tells, destroyed_sorted, husks_are}
 use Rattle.heap_phases.proofs.EndCalls.{MarksEnd, BeganSweep, marking_blocks}
 use Rattle.heap_phases.proofs.EndLines.{TellsEnd, SortsBirths}
 use Rattle.heap_phases.proofs.WeakOnce.{cleared_sorted}
-use Rattle.heap_phases.proofs.EndMemory.{heads_stay, first_stays, words_end, shadow_stays, blocks_stay, below_stays}
 use Rattle.heap_phases.proofs.EndWords.{losing}
 use Rattle.heap_phases.proofs.MajorSteps.{EndsTo, ends}
 use Rattle.heap_phases.proofs.PartsAgree.{parts_agree, ends_same}
-use Rattle.heap_phases.proofs.PlacePaths.{white_flag}
 
 -- What clearing the targets and choosing leave, for every store that the parts stand for: these births are kept for finalizers.
 pub record ChosenFor (heap one : HeapParts) (kept : List ℕ) : Type 0 where

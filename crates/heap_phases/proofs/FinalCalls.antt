@@ -1,7 +1,6 @@
 -- The last step of a cycle, as the code does it.
-use Rattle.std.proofs.Common.{◌≡◌, ℕ, ◌+◌, List, [], ◌∷◌, ◌++◌, map, IsTrue, sym, ap, ap₂, ◌∙◌, subst, append_assoc}
+use Rattle.std.proofs.Common.{◌≡◌, ℕ, List, [], ◌∷◌, ◌++◌, map, IsTrue, sym, ap, ap₂, ◌∙◌, subst, append_assoc}
 use Rattle.type_table.specs.Table.{Table}
-use Rattle.heap_space.specs.Extents.{Extent}
 use Rattle.text_model.specs.declared.line.Line.{Line}
 use Rattle.text_model.specs.declared.line.Line.TheVariants.{Stepped, ThresholdIs}
 use Rattle.text_model.specs.declared.line.Phase.TheVariants.{Scanning, Finalizing}
@@ -11,7 +10,7 @@ use Rattle.object_view.specs.Views.{HasObject}
 use Rattle.finalizer_order.specs.Finalizers.{Finalizers, placed, placed_queues}
 use Rattle.finalizer_order.specs.Queues as entry_queues
 use Rattle.store_model.specs.Sweeping.{next_threshold, queues_with}
-use Rattle.heap_parts.specs.NamedFinals.{NamedFinals, births_told}
+use Rattle.heap_parts.specs.NamedFinals.{births_told}
 use Rattle.heap_parts.specs.Parts.{HeapParts}
 use Rattle.heap_parts.specs.Collects.{StepsMajor}
 use Rattle.heap_phases.specs.Ending.{HoldObjects, queued_line}

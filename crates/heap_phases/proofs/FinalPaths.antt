@@ -1,8 +1,8 @@
 -- What the passes over the dying objects walk, once targets were cleared, is what the store speaks of.
-use Rattle.std.proofs.Common.{◌≡◌, ◌≢◌, ℕ, ◌+◌, ◌≤◌, ◌<◌, Bool, true, false, IsTrue, List, [], ◌∷◌, ◌++◌, map, refl, sym, ap, ap₂, ◌∙◌, subst, inl, inr, arith}
-use Rattle.std.specs.Prelude.{not, filter, ◌==◌, ◌&&◌, ◌↔◌, ◌%◌, nat_lt, IsFalse, take_while, if◌then◌else◌}
-use Rattle.std.proofs.lemmas.Bool.{cases_Bool, ne_eqb}
-use Rattle.std.proofs.lemmas.Bool.Decides.{nat_tests, eqb_tells}
+use Rattle.std.proofs.Common.{◌≡◌, ℕ, ◌+◌, ◌≤◌, ◌<◌, Bool, true, false, IsTrue, List, [], ◌∷◌, refl, sym, ap, ◌∙◌, subst, inl, inr, arith}
+use Rattle.std.specs.Prelude.{not, ◌==◌, ◌&&◌, ◌%◌, nat_lt, if◌then◌else◌}
+use Rattle.std.proofs.lemmas.Bool.{cases_Bool}
+use Rattle.std.proofs.lemmas.Bool.Decides.{nat_tests}
 use Rattle.type_table.specs.declared.info.TypeInfo.{TypeInfo}
 use Rattle.type_table.specs.Table.{Table}
 use Rattle.heap_space.specs.Places.{word_at}
@@ -12,31 +12,29 @@ use Rattle.object_header.specs.declared.flags.Flag.TheVariants.{Visited}
 use Rattle.object_model.specs.Layout.{Layout}
 use Rattle.object_model.specs.Sets.{is_in}
 use Rattle.object_model.specs.Holds.{IsPointer}
-use Rattle.object_model.specs.ObjectWords.{words_from, words_at, layout_at}
-use Rattle.object_model.proofs.Members.{and_first, and_second, and_both, filter-part, filter-member, false-in, not-in, is_in-named}
+use Rattle.object_model.specs.ObjectWords.{words_from, layout_at}
+use Rattle.object_model.proofs.Members.{and_first, and_second, and_both, filter-part, filter-member}
 use Rattle.object_view.proofs.WordLaws.{words_from-same}
 use Rattle.object_view.proofs.LayoutLaws.{KeepsLayout, laid_out, weak-at}
 use Rattle.finalizer_order.specs.Unvisited as unvisited
 use Rattle.finalizer_order.specs.Unvisited.{refs_at, leads_on}
 use Rattle.finalizer_order.specs.Choosing as choosing
 use Rattle.text_model.specs.declared.line.Phase.TheVariants.{Marking}
-use Rattle.store_model.specs.Store.{Store, is_settled}
-use Rattle.store_model.specs.Reach.{Leads, Reaches, is_registered}
-use Rattle.store_model.specs.Roots.{registered_births}
-use Rattle.store_model.specs.Marking.{IsMarked, IsSaved, IsChosen, is_white, is_dying, stands_before}
-use Rattle.weak_lists.specs.Targets.{ChangesTargets, kept_target, is_outside, is_unvisited}
+use Rattle.store_model.specs.Store.{Store}
+use Rattle.store_model.specs.Reach.{Leads}
+use Rattle.store_model.specs.Marking.{IsMarked, IsSaved, is_white}
+use Rattle.weak_lists.specs.Targets.{ChangesTargets, kept_target}
 use Rattle.heap_parts.specs.Parts.{HeapParts, word_in}
 use Rattle.heap_parts.specs.Places.{is_young, old_places}
 use Rattle.heap_parts.specs.StandsFor.{PartsStandFor}
 use Rattle.heap_parts.specs.Collects.{AreAllPinned}
-use Rattle.frame_laws.proofs.PlaceLaws.{old-is_in, is_in-old, is_in-young, named-by}
+use Rattle.frame_laws.proofs.PlaceLaws.{old-is_in, is_in-old, is_in-young}
 use Rattle.heap_phases.specs.Ending.{registered_places}
 use Rattle.heap_phases.specs.Visiting.{old_refs}
 use Rattle.heap_phases.proofs.ClearCalls.{weak_at}
 use Rattle.heap_phases.proofs.EndCode.{ClearsWords, clears, clears_targets}
-use Rattle.heap_phases.proofs.EndLists.{names-entries}
 use Rattle.heap_phases.proofs.EndMemory.{first_stays, words_end, white_place}
-use Rattle.heap_phases.proofs.PlacePaths.{white_step, PlacePath, SavedBy, place_reaches, place_saved}
+use Rattle.heap_phases.proofs.PlacePaths.{white_step, PlacePath, place_saved}
 use Rattle.heap_phases.proofs.VisitRefs.{each-ref, ref_place}
 
 module _ (heap : HeapParts) (store : Store) (s : PartsStandFor heap store) (pinned : AreAllPinned store) (marked : IsMarked store) (marking : heap.phase ≡ Marking)

@@ -1,6 +1,6 @@
 -- The memory once dying objects were kept: what is saved carries the mark, and nothing else changes.
-use Rattle.std.proofs.Common.{◌≡◌, ◌≢◌, ℕ, ◌+◌, ◌≤◌, ◌<◌, ◌⊎◌, Bool, true, false, IsTrue, List, [], ◌∷◌, ◌++◌, map, nat_eq, refl, sym, ap, ap₂, ◌∙◌, subst, inl, inr, arith}
-use Rattle.std.specs.Prelude.{not, filter, ◌==◌, ◌&&◌, ◌%◌, IsSome, if◌then◌else◌}
+use Rattle.std.proofs.Common.{◌≡◌, ◌≢◌, ℕ, ◌+◌, ◌≤◌, ◌<◌, ◌⊎◌, Bool, true, false, IsTrue, List, [], ◌∷◌, map, nat_eq, refl, sym, ap, ap₂, ◌∙◌, subst, inl, inr, arith}
+use Rattle.std.specs.Prelude.{not, filter, ◌==◌, ◌&&◌, IsSome, if◌then◌else◌}
 use Rattle.std.specs.List.{IsDistinct}
 use Rattle.std.specs.List.Sorted.{IsPermutation, IsNonDecreasing}
 use Rattle.std.proofs.lemmas.Bool.{cases_Bool, ne_eqb}
@@ -10,7 +10,7 @@ use Rattle.type_table.specs.declared.info.TypeInfo.{TypeInfo}
 use Rattle.type_table.specs.Table.{Table, value_at}
 use Rattle.heap_space.specs.Places.{Placed, word_at, has, with_word, lies_in_one}
 use Rattle.heap_space.specs.Memory.{Memory}
-use Rattle.heap_space.specs.Extents.{IsOutside, extent_of, extents_between, begins_between}
+use Rattle.heap_space.specs.Extents.{IsOutside, extent_of, begins_between}
 use Rattle.heap_space.proofs.Blocks.{has-with_word, word_at-here, word_at-elsewhere, lies-has}
 use Rattle.heap_space.proofs.ExtentLaws.{extents-with_word}
 use Rattle.object_header.specs.Words.{has_flag, with_flag}
@@ -22,13 +22,11 @@ use Rattle.object_model.specs.ObjectWords.{updated, words_at, layout_at, Covers}
 use Rattle.object_model.proofs.Members.{and_first, and_second, and_both, false-in, filter-part, filter-member, is_in-cases, is_in-nil, map-same, not-true}
 use Rattle.object_view.specs.Views.{HasObject}
 use Rattle.object_view.proofs.WordLaws.{updated-here}
-use Rattle.object_view.proofs.LayoutLaws.{laid_out, KeepsLayout}
-use Rattle.old_space.specs.HasBlocks.{HasBlocks, IsBlock}
+use Rattle.object_view.proofs.LayoutLaws.{laid_out}
+use Rattle.old_space.specs.HasBlocks.{IsBlock}
 use Rattle.old_space.proofs.JoinLaws.{HasBlocks_untouched, HasBlocks-blocks}
-use Rattle.finalizer_order.specs.Changes.{changed_at, visited_at}
-use Rattle.finalizer_order.specs.Choosing as choosing
+use Rattle.finalizer_order.specs.Changes.{visited_at}
 use Rattle.finalizer_order.specs.Choosing.{CanChoose, Keeps}
-use Rattle.finalizer_order.specs.Unvisited.{refs_at}
 use Rattle.finalizer_order.proofs.Changes.{untouched}
 use Rattle.text_model.specs.declared.line.Phase.TheVariants.{Marking}
 use Rattle.store_model.specs.Store.{Store, is_settled}

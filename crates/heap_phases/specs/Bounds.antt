@@ -1,5 +1,5 @@
 -- What else holds of steps: how many units are swept, and what a cycle leaves of what it found to be dead.
-use Rattle.std.specs.Prelude.{◌≡◌, ℕ, ◌+◌, ◌↔◌, min, []}
+use Rattle.std.specs.Prelude.{◌≡◌, ◌+◌, ◌↔◌, min, []}
 use Rattle.old_space.specs.Sweeping.{units_left}
 use Rattle.text_model.specs.declared.line.Phase.TheVariants.{Finalizing}
 use Rattle.store_model.specs.Store.{Store}

@@ -25,6 +25,7 @@ impl Phases {
         requires { CanEnd parts.old }
         ensures ends { OnOk result (EndsMajor parts.old parts.new events.old.items events.new.items) }
         ensures counts { IfOk result (λ end. CountsHusks parts.old parts.new end) }
+        ensures freed { IfOk result (λ end. end.freed_words ≡ 0) }
     {
         clear_targets(parts, &mut self.births, events)?;
         choose(parts, &mut self.births, events)?;

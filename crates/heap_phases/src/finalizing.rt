@@ -25,6 +25,7 @@ pub(crate) fn finalize(
     requires phase { parts.old.phase ≡ Finalizing }
     ensures steps { OnOk result (StepsMajor parts.old parts.new events.old.items events.new.items) }
     ensures counts { IfOk result (λ end. CountsHusks parts.old parts.new end) }
+    ensures freed { IfOk result (λ end. end.freed_words ≡ 0) }
     ensures none_left { OnOk result (LeavesNone parts.old parts.new) }
 {
     events.push(Line::Stepped {

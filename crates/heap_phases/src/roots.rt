@@ -25,6 +25,7 @@ pub(crate) fn start(
     requires phase { parts.old.phase ≡ Scanning }
     ensures steps { OnOk result (StepsMajor parts.old parts.new events.old.items events.new.items) }
     ensures counts { IfOk result (λ end. CountsHusks parts.old parts.new end) }
+    ensures freed { IfOk result (λ end. end.freed_words ≡ 0) }
 {
     queue_roots(parts, places)?;
     parts.phase = Phase::Marking;

@@ -28,6 +28,7 @@ pub(crate) fn sweep_step(
     requires phase { parts.old.phase ≡ Sweeping }
     ensures steps { OnOk result (StepsMajor parts.old parts.new events.old.items events.new.items) }
     ensures counts { IfOk result (λ end. CountsHusks parts.old parts.new end) }
+    ensures made { IfOk result (λ end. end.husk_words ≡ 0) }
     ensures units { OnOk result (SweepsUnits parts.old parts.new) }
 {
     freed.clear();

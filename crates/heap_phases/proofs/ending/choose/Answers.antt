@@ -1,4 +1,4 @@
-use Rattle.std.proofs.Common.{◌≡◌, ℕ, List, [], ◌++◌, map, ap, ◌∙◌, subst, sym}
+use Rattle.std.proofs.Common.{ℕ, List, ◌++◌, map, ap, ◌∙◌, subst, sym}
 use Rattle.finalizer_order.specs.Choosing.{CanChoose, Keeps}
 use Rattle.finalizer_order.specs.Finalizers.{places_of}
 use Rattle.text_model.specs.declared.line.Line.TheVariants.{Kept}

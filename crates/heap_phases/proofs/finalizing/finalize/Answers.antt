@@ -11,7 +11,7 @@ use Rattle.heap_phases.specs.Ending.{HoldObjects, queued_line}
 use Rattle.heap_phases.specs.Steps.{CanStep}
 use Rattle.heap_phases.proofs.BoundCalls.{leaves_none}
 use Rattle.heap_phases.proofs.ChooseCalls.{with_chosen_finals}
-use Rattle.heap_phases.proofs.FinalCalls.{finalizes_all, ended_parts, chosen_objects, flushed_shown}
+use Rattle.heap_phases.proofs.FinalCalls.{finalizes_all, chosen_objects, flushed_shown}
 use Rattle.heap_phases.proofs.finalizing.finalize.Goals as goal
 
 pub tell_queued-requires : goal.tell_queued-requires

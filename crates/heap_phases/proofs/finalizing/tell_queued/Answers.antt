@@ -1,5 +1,4 @@
-use Rattle.std.proofs.Common.{ℕ, get_or, ◌+◌, ◌∷◌, [], ◌++◌, List, ap, ◌∙◌}
-use Rattle.text_model.specs.declared.line.Line.{Line}
+use Rattle.std.proofs.Common.{ℕ, get_or, ◌∷◌, [], ◌++◌, ap, ◌∙◌}
 use Rattle.text_model.specs.declared.line.Line.TheVariants.{Queued}
 use Rattle.heap_phases.specs.Ending.{queued_line}
 use Rattle.heap_phases.proofs.PushLaws.{read_each}

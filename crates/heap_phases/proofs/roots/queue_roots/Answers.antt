@@ -1,4 +1,4 @@
-use Rattle.std.proofs.Common.{◌≡◌, ℕ, List, [], ◌++◌, ap, ap₂, ◌∙◌, subst, sym}
+use Rattle.std.proofs.Common.{◌≡◌, ℕ, List, ◌++◌, ap, ◌∙◌, subst, sym}
 use Rattle.finalizer_order.specs.Finalizers.{places_of, queued_entries}
 use Rattle.store_model.specs.Structs.{forced_objects}
 use Rattle.heap_parts.specs.Parts.{HeapParts}
