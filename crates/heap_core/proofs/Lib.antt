@@ -18,3 +18,6 @@ pub mod IdentityCalls
 pub mod PinReady
 pub mod PinCalls
 pub mod HomeReserved
+pub mod Runs
+pub mod TestStores
+pub mod WordCalls

@@ -4,3 +4,4 @@ pub mod StructLines
 pub mod Seen
 pub mod Bearing
 pub mod Pinning
+pub mod TestStores

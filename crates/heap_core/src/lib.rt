@@ -10,6 +10,8 @@ mod pinning;
 mod slots;
 mod structures;
 mod tellers;
+#[cfg(test)]
+mod tests;
 mod usage;
 
 pub use fault::HeapFault;
