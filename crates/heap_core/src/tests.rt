@@ -128,7 +128,8 @@ fn play(heap: &mut Heap, alloc: Global) -> Result<(u64, Option<u64>), Fail>
 #[test]
 fn words_are_the_heap(rt: HostRuntime) -> Result<(), Fail> {
     let mut heap = Heap::closed();
-    let found = play(&mut heap, rt.alloc())?;
-    assert_eq!(rt; found, (77, Some(3)));
+    let (number, birth) = play(&mut heap, rt.alloc())?;
+    assert_eq!(rt; number, 77);
+    assert_eq!(rt; birth, Some(3));
     Ok(())
 }
