@@ -5,3 +5,4 @@ pub mod Seen
 pub mod Bearing
 pub mod Pinning
 pub mod Telling
+pub mod TestStores

@@ -11,6 +11,8 @@ mod pinning;
 mod slots;
 mod structures;
 mod tellers;
+#[cfg(test)]
+mod tests;
 mod usage;
 mod weak;
 
