@@ -24,6 +24,3 @@ pub mod TellCalls
 pub mod WeakReady
 pub mod WeakCalls
 pub mod WeakBearLaws
-pub mod Runs
-pub mod TestStores
-pub mod WordCalls

@@ -5,4 +5,3 @@ pub mod Seen
 pub mod Bearing
 pub mod Pinning
 pub mod Telling
-pub mod TestStores

@@ -11,8 +11,6 @@ mod pinning;
 mod slots;
 mod structures;
 mod tellers;
-#[cfg(test)]
-mod tests;
 mod usage;
 mod weak;
 

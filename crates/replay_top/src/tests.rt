@@ -26,37 +26,6 @@ struct Outcome {
     err: Vec<u8>,
 }
 
-/// The one file `s` with these bytes, where these calls fail.
-fn files_of(alloc: Global, script: &[u8], fails: &[u64]) -> Result<MemFiles, AllocError> {
-    let mut named = Vec::new(alloc);
-    named.push(NamedFile {
-        name: Vec::from_slice(alloc, b"s")?,
-        bytes: Vec::from_slice(alloc, script)?,
-    })?;
-    Ok(MemFiles::new(named, Vec::from_slice(alloc, fails)?))
-}
-
-/// Words as texts of their own.
-fn texts_of(alloc: Global, words: &[&str]) -> Result<Vec<String>, AllocError> {
-    let mut texts = Vec::new(alloc);
-    for word in words {
-        texts.push(String::from_str(alloc, word)?)?;
-    }
-    Ok(texts)
-}
-
-/// Runs the program over a heap of its own.
-fn status_of(
-    alloc: Global,
-    words: &[String],
-    files: &mut MemFiles,
-    out: &mut MemSink,
-    err: &mut MemSink,
-) -> Status {
-    let mut heap = Heap::closed();
-    run(alloc, words, files, out, err, &mut heap)
-}
-
 /// Runs the program for words, where these calls of the files and of the sink fail. The script is the one file, by the
 /// name `s`.
 fn answered(
@@ -66,11 +35,20 @@ fn answered(
     read_fails: &[u64],
     write_fails: &[u64],
 ) -> Result<Outcome, AllocError> {
-    let texts = texts_of(alloc, words)?;
-    let mut files = files_of(alloc, script, read_fails)?;
+    let mut named = Vec::new(alloc);
+    named.push(NamedFile {
+        name: Vec::from_slice(alloc, b"s")?,
+        bytes: Vec::from_slice(alloc, script)?,
+    })?;
+    let mut files = MemFiles::new(named, Vec::from_slice(alloc, read_fails)?);
     let mut out = MemSink::new(alloc, 10_000, Vec::from_slice(alloc, write_fails)?)?;
     let mut err = MemSink::new(alloc, 1000, Vec::new(alloc))?;
-    let status = status_of(alloc, &texts, &mut files, &mut out, &mut err);
+    let mut heap = Heap::closed();
+    let mut texts = Vec::new(alloc);
+    for word in words {
+        texts.push(String::from_str(alloc, word)?)?;
+    }
+    let status = run(alloc, &texts, &mut files, &mut out, &mut err, &mut heap);
     Ok(Outcome {
         status,
         out: Vec::from_slice(alloc, out.written())?,
