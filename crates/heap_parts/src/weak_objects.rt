@@ -71,6 +71,7 @@ impl Parts {
 
     /// Takes off the list what was listed last.
     fn unlist_weak(&mut self)
+        requires { 0 < length self.old.weaks }
         ensures { (front : List ℕ) (last : ℕ) → self.old.weaks ≡ front ++ last ∷ [] → self.new ≡ record self.old { weaks = front } }
     {
         self.weaks.drop_last();

@@ -74,6 +74,7 @@ impl Weaks {
 
     /// Takes what was added last off the list.
     pub fn drop_last(&mut self)
+        requires { 0 < length self.old }
         ensures { (front : List ℕ) (x : ℕ) → self.old ≡ front ++ x ∷ [] → self.new ≡ front }
     {
         let _last = self.places.pop();
