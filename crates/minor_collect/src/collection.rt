@@ -1,0 +1,191 @@
+//! A minor collection, whole.
+
+ghost use Rattle.std.specs.Prelude.{◌≡◌, ◌++◌, [], ◌∷◌, length, map, OnOk, IfOk};
+ghost use Rattle.object_model.specs.Sets.{is_in};
+ghost use Rattle.store_model.specs.Links.{cut_links, link_ends};
+ghost use Rattle.text_model.specs.declared.line.Line.TheVariants.{MinorDone, Cleared, Destroyed, LinkCut};
+ghost use Rattle.store_model.specs.Store.{Store};
+ghost use Rattle.heap_parts.specs.StandsFor.{PartsStandButYoung};
+ghost use Rattle.text_model.specs.declared.line.Phase.TheVariants.{Marking};
+ghost use Rattle.minor_collect.specs.Calls.{CanBegin, Survived, Stage, Spot, Middle};
+ghost use Rattle.minor_collect.specs.Drops.{CanGiveThen, Drops};
+ghost use Rattle.minor_collect.specs.WeakPass.{CanPassWeaks, PassesWeaks};
+ghost use Rattle.minor_collect.specs.Remade.{CanRemake, Remakes};
+ghost use Rattle.minor_collect.specs.Vanished.{IsMidway, FindsVanished};
+ghost use Rattle.minor_collect.specs.Queues.{Queues, CanQueueSpans, visited_places};
+
+use crate::ending::{give_homes_back, list_dead, list_destroyed, pinned_ranges, queue_written};
+use crate::items::drain;
+use crate::roots::follow_roots;
+use crate::spans::{drain_spans, list_written, take_all};
+use crate::telling::tell_loss;
+use crate::work::{Lists, Moving};
+use heap_parts::Parts;
+use remember_cards::Span;
+use std::alloc::AllocError;
+use text_model::{Line, LinkEnd, Phase};
+
+/// How a minor collection ended.
+#[derive(Clone, Copy, PartialEq, Eq, Debug)]
+pub struct MinorEnd {
+    /// How many objects moved out of the nursery.
+    pub settled: u64,
+    /// The words of those.
+    pub settled_words: u64,
+    /// How many objects are gone.
+    pub vanished: u64,
+}
+
+/// A minor collection. The objects of the nursery that roots, registered objects, P links or remembered references lead to
+/// move out of it, but for the pinned ones, and the others are gone. The lines of that are appended. The lists are scratch.
+///
+/// The error is out of memory, and the parts are spent then.
+pub fn minor(
+    parts: &mut Parts,
+    lists: &mut Lists,
+    events: &mut Vec<Line>,
+) -> Result<MinorEnd, AllocError> {
+    lists.clear();
+    move_survivors(
+        parts,
+        &mut lists.moving,
+        &mut lists.spans,
+        &mut lists.registered,
+        &mut lists.forced,
+    )?;
+    find_vanished(parts, &mut lists.dead, &mut lists.destroyed)?;
+    queue_visited(parts, &lists.spans, &mut lists.written)?;
+    let vanished = drop_vanished(parts, lists, events)?;
+    remake_nursery(parts, &mut lists.places, &mut lists.pinned)?;
+    let moving = &lists.moving;
+    parts.old_words += moving.words;
+    parts.fresh = 0;
+    Ok(MinorEnd {
+        settled: moving.objects,
+        settled_words: moving.words,
+        vanished,
+    })
+}
+
+/// Moves all that survives and is not pinned out of the nursery. The lists are empty before. The error is out of memory.
+fn move_survivors(
+    parts: &mut Parts,
+    moving: &mut Moving,
+    spans: &mut Vec<Span>,
+    registered: &mut Vec<u64>,
+    forced: &mut Vec<u64>,
+) -> Result<(), AllocError>
+    requires begin { CanBegin parts.old moving.old }
+    requires spans { spans.old.items ≡ [] }
+    requires registered { registered.old.items ≡ [] }
+    requires forced { forced.old.items ≡ [] }
+    ensures { (store : Store) (stands : PartsStandButYoung parts.old store) → OnOk result (Survived (record { start = parts.old; store = store; stands = stands }) parts.new moving.new) }
+{
+    take_all(parts, spans)?;
+    follow_roots(parts, moving, registered, forced)?;
+    drain_spans(parts, moving, spans)?;
+    drain(parts, moving)
+}
+
+/// Lists what is gone, and the births of what of it has a destructor. The lists are empty before. The error is out of memory.
+fn find_vanished(
+    parts: &Parts,
+    dead: &mut Vec<u64>,
+    destroyed: &mut Vec<u64>,
+) -> Result<(), AllocError>
+    requires midway { IsMidway parts.now }
+    requires dead { dead.old.items ≡ [] }
+    requires destroyed { destroyed.old.items ≡ [] }
+    ensures { (stage : Stage) (spot : Spot) → Middle stage parts.now spot [] → OnOk result (FindsVanished stage spot parts.now dead.new.items destroyed.new.items) }
+{
+    list_dead(parts, dead)?;
+    list_destroyed(parts, dead, destroyed)
+}
+
+/// Queues for marking, where it goes on, what visited objects refer to that were written.
+fn queue_visited(
+    parts: &mut Parts,
+    spans: &[Span],
+    written: &mut Vec<u64>,
+) -> Result<(), AllocError>
+    requires there { parts.old.phase ≡ Marking → CanQueueSpans parts.old spans.now }
+    requires empty { written.old.items ≡ [] }
+    ensures marking { parts.old.phase ≡ Marking → OnOk result (Queues parts.old parts.new (visited_places parts.old spans.now)) }
+    ensures other { (parts.old.phase ≡ Marking → ⊥) → parts.new ≡ parts.old }
+{
+    if parts.phase != Phase::Marking {
+        return Ok(());
+    }
+    list_written(parts, spans, written)?;
+    queue_written(parts, written)
+}
+
+/// Lets go of all that is gone: targets, homes and links. Tells how much it is, and appends the lines. The error is out of memory.
+fn drop_vanished(
+    parts: &mut Parts,
+    lists: &mut Lists,
+    events: &mut Vec<Line>,
+) -> Result<u64, AllocError>
+    requires weaks { CanPassWeaks parts.old }
+    requires gives { CanGiveThen parts.old lists.old.dead.items lists.old.cleared.items }
+    ensures drops { OnOk result (Drops parts.old parts.new lists.old.dead.items lists.old.cleared.items lists.new.cleared.items) }
+    ensures lines { OnOk result (events.new.items ≡ (((events.old.items ++ MinorDone lists.old.moving.objects (length lists.old.dead.items) ∷ []) ++ map (λ birth. Cleared birth) lists.new.cleared.items) ++ map (λ birth. Destroyed birth) lists.old.destroyed.items) ++ map (λ end. LinkCut end) lists.new.ends.items) }
+    ensures moving { lists.new.moving ≡ lists.old.moving }
+    ensures places { lists.new.places.items ≡ lists.old.places.items }
+    ensures pinned { lists.new.pinned.items ≡ lists.old.pinned.items }
+    ensures vanished { IfOk result (λ vanished. vanished ≡ length lists.old.dead.items) }
+{
+    pass_weaks(parts, &mut lists.cleared)?;
+    give_homes_back(parts, &lists.dead);
+    end_links(parts, &lists.dead, &mut lists.ends)?;
+    tell_minor(lists, events)?;
+    Ok(lists.dead.len() as u64)
+}
+
+/// Ends the links with the objects at these places, which are gone, and appends how. The error is out of memory.
+fn end_links(parts: &mut Parts, dead: &[u64], ends: &mut Vec<LinkEnd>) -> Result<(), AllocError>
+    ensures cut { OnOk result (parts.new ≡ record parts.old { links = cut_links (λ object. is_in object dead.now) parts.old.links }) }
+    ensures ends { OnOk result (ends.new.items ≡ ends.old.items ++ link_ends (λ object. is_in object dead.now) parts.old.links.structs) }
+{
+    parts.links.cut_dead(dead, ends)
+}
+
+/// Appends the lines of a minor collection: what moved and what is gone, and then its targets, destructors and links. The error is
+/// out of memory.
+fn tell_minor(lists: &Lists, events: &mut Vec<Line>) -> Result<(), AllocError>
+    ensures { OnOk result (events.new.items ≡ (((events.old.items ++ MinorDone lists.now.moving.objects (length lists.now.dead.items) ∷ []) ++ map (λ birth. Cleared birth) lists.now.cleared.items) ++ map (λ birth. Destroyed birth) lists.now.destroyed.items) ++ map (λ end. LinkCut end) lists.now.ends.items) }
+{
+    events.push(Line::MinorDone {
+        settled: lists.moving.objects,
+        vanished: lists.dead.len() as u64,
+    })?;
+    tell_loss(&lists.cleared, &lists.destroyed, &lists.ends, events)
+}
+
+/// Lets targets follow, or clears them where they are gone, and appends the births of the weak objects that lose theirs, by rising
+/// birth. Weak objects that are gone are listed no longer. The error is out of memory.
+fn pass_weaks(parts: &mut Parts, cleared: &mut Vec<u64>) -> Result<(), AllocError>
+    requires { CanPassWeaks parts.old }
+    ensures { OnOk result (PassesWeaks parts.old parts.new cleared.old.items cleared.new.items) }
+{
+    parts
+        .weaks
+        .after_minor(&mut parts.space, &parts.types, &parts.nursery, cleared)
+}
+
+/// Makes the nursery anew around the pinned objects. The lists are scratch, and empty before. The error is out of memory.
+fn remake_nursery(
+    parts: &mut Parts,
+    places: &mut Vec<u64>,
+    pinned: &mut Vec<(u64, u64)>,
+) -> Result<(), AllocError>
+    requires can { CanRemake parts.old }
+    requires no_places { places.old.items ≡ [] }
+    requires none { pinned.old.items ≡ [] }
+    ensures { OnOk result (Remakes parts.old parts.new) }
+{
+    parts.unsettled = pinned_ranges(parts, places, pinned)?;
+    parts.nursery.reset(pinned);
+    parts.gapped = !parts.pins.is_empty();
+    Ok(())
+}
