@@ -10,6 +10,8 @@ ghost use Rattle.heap_core.specs.declared.fault.HeapFault.TheVariants.{Spent};
 ghost use Rattle.heap_core.specs.Bearing.{PartsAppend, IsFitting, MayBear, BearsKnown};
 ghost use Rattle.heap_core.specs.Commands.{AreReady, CanDo, PartsKeep, Performs, Keeps, fault_of};
 
+use crate::collecting::{Collector, make_room};
+use crate::collections::lists_of;
 use crate::fault::HeapFault;
 use crate::heap::{Heap, State};
 use heap_parts::Parts;
@@ -39,7 +41,11 @@ impl Heap {
         ensures spent { IsTrue self.old.is_spent → (result ≡ Err Spent) × (self.new ≡ self.old) }
     {
         match &mut self.state {
-            State::Started(parts) => Ok(bear_fixed(parts, root, type_id, out)?),
+            State::Started(parts) => {
+                let collector = lists_of(parts, &mut self.collector);
+                let ended = new_object(parts, collector, root, type_id, 0, out);
+                self.end_birth(ended)
+            }
             State::Closed | State::Spent => Err(HeapFault::Spent),
         }
     }
@@ -60,41 +66,31 @@ impl Heap {
         ensures spent { IsTrue self.old.is_spent → (result ≡ Err Spent) × (self.new ≡ self.old) }
     {
         match &mut self.state {
-            State::Started(parts) => Ok(bear_array(parts, root, type_id, len, out)?),
+            State::Started(parts) => {
+                let collector = lists_of(parts, &mut self.collector);
+                let ended = new_object(parts, collector, root, type_id, len, out);
+                self.end_birth(ended)
+            }
             State::Closed | State::Spent => Err(HeapFault::Spent),
         }
     }
 }
 
-/// An object of a fixed type is born for a slot.
-fn bear_fixed(
+/// Makes room for an object of a type, which is then born for a slot. The lines of both are appended.
+fn new_object(
     parts: &mut Parts,
+    collector: &mut Collector,
     root: u32,
     type_id: u16,
+    items: u64,
     out: &mut Vec<Line>,
-) -> Result<(), AllocError>
-    requires { AreReady parts.old (NewFixed root type_id) }
-    ensures does { OnOk result (PartsAppend parts.old parts.new (NewFixed root type_id) out.old.items out.new.items) }
-    ensures err { OnErr result (PartsKeep parts.old parts.new) }
-    ensures err_out { OnErr result (out.new.items ≡ out.old.items) }
-{
-    bear(parts, root, type_id, 0, out)
-}
-
-/// An array is born for a slot.
-fn bear_array(
-    parts: &mut Parts,
-    root: u32,
-    type_id: u16,
-    len: u64,
-    out: &mut Vec<Line>,
-) -> Result<(), AllocError>
-    requires { AreReady parts.old (NewArray root type_id len) }
-    ensures does { OnOk result (PartsAppend parts.old parts.new (NewArray root type_id len) out.old.items out.new.items) }
-    ensures err { OnErr result (PartsKeep parts.old parts.new) }
-    ensures err_out { OnErr result (out.new.items ≡ out.old.items) }
-{
-    bear(parts, root, type_id, len, out)
+) -> Result<(), HeapFault> {
+    let Some(info) = parts.type_info(type_id) else {
+        return Err(HeapFault::OutOfMemory);
+    };
+    make_room(parts, collector, words(info, items), out)?;
+    bear(parts, root, type_id, items, out)?;
+    Ok(())
 }
 
 /// An object of a type is born for a slot, and its line is appended. The error is out of memory, also where the next

@@ -6,6 +6,7 @@ ghost use Rattle.heap_core.specs.declared.fault.HeapFault.TheVariants.{OutOfMemo
 ghost use Rattle.heap_core.specs.Heap.{closed_heap, StandsFor};
 ghost use Rattle.heap_core.specs.Commands.{IsFresh};
 
+use crate::collecting::Collector;
 use crate::fault::HeapFault;
 use heap_parts::Parts;
 use object_model::Settings;
@@ -26,6 +27,8 @@ pub(crate) enum State {
 #[derive(Drop)]
 pub struct Heap {
     pub(crate) state: State,
+    /// What collections work with, from the first collection on.
+    pub(crate) collector: Option<Collector>,
 }
 
 impl Model for Heap {
@@ -48,6 +51,7 @@ impl Heap {
     {
         Heap {
             state: State::Closed,
+            collector: None,
         }
     }
 

@@ -2,6 +2,8 @@
 #![tactic(auto)]
 
 mod births;
+mod collecting;
+mod collections;
 mod fault;
 mod fields;
 mod finalizers;

@@ -7,11 +7,14 @@ ghost use Rattle.heap_core.specs.Bearing.{PartsAppend};
 ghost use Rattle.heap_core.specs.Commands.{AreReady, CanDo, PartsDo, PartsKeep, Performs, Keeps, fault_of};
 
 use crate::births::LAST_BIRTH;
+use crate::collecting::{Collector, make_room};
+use crate::collections::lists_of;
 use crate::fault::HeapFault;
 use crate::heap::{Heap, State};
 use heap_parts::Parts;
 use std::alloc::AllocError;
 use text_model::Line;
+use type_table::words;
 
 impl Heap {
     /// A weak object is born for a slot, and its line is appended. Its target is what another slot holds, which it does not
@@ -32,7 +35,11 @@ impl Heap {
         ensures spent { IsTrue self.old.is_spent → (result ≡ Err Spent) × (self.new ≡ self.old) }
     {
         match &mut self.state {
-            State::Started(parts) => Ok(bear_weak(parts, root, type_id, target, out)?),
+            State::Started(parts) => {
+                let collector = lists_of(parts, &mut self.collector);
+                let ended = new_weak_object(parts, collector, root, type_id, target, out);
+                self.end_birth(ended)
+            }
             State::Closed | State::Spent => Err(HeapFault::Spent),
         }
     }
@@ -51,6 +58,23 @@ impl Heap {
             State::Closed | State::Spent => Err(HeapFault::Spent),
         }
     }
+}
+
+/// Makes room for a weak object, which is then born for a slot. The lines of both are appended.
+fn new_weak_object(
+    parts: &mut Parts,
+    collector: &mut Collector,
+    root: u32,
+    type_id: u16,
+    target: u32,
+    out: &mut Vec<Line>,
+) -> Result<(), HeapFault> {
+    let Some(info) = parts.type_info(type_id) else {
+        return Err(HeapFault::OutOfMemory);
+    };
+    make_room(parts, collector, words(info, 0), out)?;
+    bear_weak(parts, root, type_id, target, out)?;
+    Ok(())
 }
 
 /// A weak object is born for a slot, with what another slot holds as its target, and its line is appended. The error is

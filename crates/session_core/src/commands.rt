@@ -30,6 +30,9 @@ pub(crate) fn do_command(
             type_id,
             target,
         } => heap.new_weak(root, type_id, target, out),
+        Command::Minor => heap.minor(out),
+        Command::Step => heap.step(out),
+        Command::Collect => heap.collect(out),
         _ => {
             out.reserve(1)?;
             on_objects(heap, command, out)

@@ -78,9 +78,6 @@ impl Session {
         if command.is_above() {
             return Some(Reason::Range);
         }
-        if is_unbuilt(command) {
-            return Some(Reason::NotBuilt);
-        }
         self.refusal_in_range(heap, command)
     }
 
@@ -305,7 +302,7 @@ impl Session {
             return Some(Reason::NoType);
         };
         match info.shape {
-            Shape::Fixed { .. } => self.room_refusal(heap, words(info, 0)),
+            Shape::Fixed { .. } => None,
             _ => Some(Reason::WrongShape),
         }
     }
@@ -325,7 +322,7 @@ impl Session {
             return Some(Reason::NoType);
         };
         match info.shape {
-            Shape::IntArray | Shape::RefArray => self.room_refusal(heap, words(info, len)),
+            Shape::IntArray | Shape::RefArray => None,
             _ => Some(Reason::WrongShape),
         }
     }
@@ -348,34 +345,8 @@ impl Session {
             return Some(Reason::NoType);
         };
         match info.shape {
-            Shape::Weak => self.room_refusal(heap, words(info, 0)),
+            Shape::Weak => None,
             _ => Some(Reason::WrongShape),
         }
     }
-
-    /// Of a birth of so many words: what needs a collection is not built yet.
-    fn room_refusal(&self, heap: &Heap, words: u64) -> Option<Reason>
-        requires placed { IsPlaced self.now heap.now }
-        requires few { words ≤ 16777219 }
-        ensures { result ≡ first_reason ((needs_collection (setup_of self.now heap.now) (room_seen self.now.types heap.now) (Some words), Unbuilt) ∷ []) }
-    {
-        let settings = &self.settings;
-        let unsettled = self.unsettled_words(heap);
-        let fresh = self.fresh_words(heap);
-        if unsettled + fresh + words > settings.nursery {
-            return Some(Reason::NotBuilt);
-        }
-        let counted = self.counted_words(heap);
-        if counted + words > settings.limit {
-            return Some(Reason::NotBuilt);
-        }
-        None
-    }
-}
-
-/// Whether the program does not do a command yet.
-fn is_unbuilt(command: &Command) -> bool
-    ensures { result ≡ is_unbuilt command.now }
-{
-    matches!(*command, Command::Minor | Command::Step | Command::Collect)
 }

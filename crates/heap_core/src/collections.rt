@@ -1,0 +1,73 @@
+//! Commands that collect.
+use crate::collecting::{Collector, collect_all, collect_minor, collect_step};
+use crate::fault::HeapFault;
+use crate::heap::{Heap, State};
+use heap_parts::Parts;
+use std::alloc::AllocError;
+use text_model::Line;
+
+impl Heap {
+    /// A minor collection, whose lines are appended. The error is out of memory: the heap is spent then, and no line is there.
+    pub fn minor(&mut self, out: &mut Vec<Line>) -> Result<(), HeapFault> {
+        match &mut self.state {
+            State::Started(parts) => {
+                let collector = lists_of(parts, &mut self.collector);
+                let ended = collect_minor(parts, collector, out);
+                self.end(ended)
+            }
+            State::Closed | State::Spent => Err(HeapFault::Spent),
+        }
+    }
+
+    /// A minor collection and a major step of the phase that runs, whatever the threshold is. The lines of both are appended.
+    /// The error is out of memory: the heap is spent then, and no line is there.
+    pub fn step(&mut self, out: &mut Vec<Line>) -> Result<(), HeapFault> {
+        match &mut self.state {
+            State::Started(parts) => {
+                let collector = lists_of(parts, &mut self.collector);
+                let ended = collect_step(parts, collector, out);
+                self.end(ended)
+            }
+            State::Closed | State::Spent => Err(HeapFault::Spent),
+        }
+    }
+
+    /// A whole collection: such blocks until a cycle ends, and a whole cycle more where one ran before. The lines are appended.
+    /// The error is out of memory: the heap is spent then, and no line is there.
+    pub fn collect(&mut self, out: &mut Vec<Line>) -> Result<(), HeapFault> {
+        match &mut self.state {
+            State::Started(parts) => {
+                let collector = lists_of(parts, &mut self.collector);
+                let ended = collect_all(parts, collector, out);
+                self.end(ended)
+            }
+            State::Closed | State::Spent => Err(HeapFault::Spent),
+        }
+    }
+
+    /// How a collecting call ends: where memory ran out, the heap is spent.
+    fn end(&mut self, ended: Result<(), AllocError>) -> Result<(), HeapFault> {
+        if ended.is_err() {
+            self.state = State::Spent;
+            return Err(HeapFault::OutOfMemory);
+        }
+        Ok(())
+    }
+
+    /// How the call of a birth ends: where memory ran out inside a collection, the heap is spent.
+    pub(crate) fn end_birth(&mut self, ended: Result<(), HeapFault>) -> Result<(), HeapFault> {
+        match ended {
+            Err(HeapFault::Spent) => {
+                self.state = State::Spent;
+                Err(HeapFault::OutOfMemory)
+            }
+            _ => ended,
+        }
+    }
+}
+
+/// The lists of collections, which are made where none are there yet.
+pub(crate) fn lists_of<'a>(parts: &Parts, kept: &'a mut Option<Collector>) -> &'a mut Collector {
+    let alloc = *parts.slots.allocator();
+    kept.get_or_insert_with(|| Collector::new(alloc))
+}
