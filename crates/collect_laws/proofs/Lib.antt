@@ -1,0 +1,3 @@
+pub mod TestLaws
+pub mod BlockLaws
+pub mod CycleLaws

@@ -1,0 +1,4 @@
+pub mod Events
+pub mod Tests
+pub mod Collections
+pub mod Room
