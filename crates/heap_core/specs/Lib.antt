@@ -3,6 +3,7 @@ pub mod Commands
 pub mod StructLines
 pub mod Seen
 pub mod Bearing
+pub mod Room
 pub mod Pinning
 pub mod Telling
 pub mod TestStores
