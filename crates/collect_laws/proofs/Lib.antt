@@ -1,3 +1,5 @@
 pub mod TestLaws
 pub mod BlockLaws
+pub mod StepCount
+pub mod StepsAhead
 pub mod CycleLaws

@@ -1,0 +1,1 @@
+-- How many steps may come before a cycle ends: each block makes them fewer.
