@@ -5,7 +5,6 @@ use Rattle.text_model.specs.declared.line.Line.{Line}
 use Rattle.text_model.specs.declared.line.Phase.{Phase}
 use Rattle.text_model.specs.declared.line.Phase.TheVariants.{Scanning, Marking, Sweeping, Finalizing}
 use Rattle.object_model.specs.declared.settings.Settings.{Settings}
-use Rattle.object_model.specs.Object.{Object}
 use Rattle.object_model.specs.Setup.{Setup}
 use Rattle.object_model.specs.ObjectWords.{object_from}
 use Rattle.store_model.specs.Store.{Store}
@@ -14,7 +13,7 @@ use Rattle.store_model.specs.Collections.{Block, always, Cycle, Last, More, TwoC
 use Rattle.heap_parts.specs.Parts.{HeapParts, word_in}
 use Rattle.heap_parts.specs.Places.{RiseBetween}
 use Rattle.heap_parts.specs.StandsFor.{PartsStandFor}
-use Rattle.collect_laws.specs.Events.{EventOf, Undergoes}
+use Rattle.collect_laws.specs.Events.{Undergoes}
 use Rattle.collect_laws.specs.Collections.{CollectsStep, CollectsCycle, CollectsAll}
 use Rattle.collect_laws.proofs.BlockLaws.{as_event, in_turn}
 use Rattle.collect_laws.proofs.StepCount.{steps_in, steps_append, block_steps}

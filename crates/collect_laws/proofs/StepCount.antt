@@ -1,5 +1,5 @@
 -- How many major steps the lines of collections tell of: each block with its step has one.
-use Rattle.std.proofs.Common.{◌≡◌, ℕ, ◌+◌, Bool, true, false, List, [], ◌∷◌, ◌++◌, map, refl, sym, ap, ◌∙◌, subst, arith}
+use Rattle.std.proofs.Common.{◌≡◌, ℕ, ◌+◌, Bool, true, false, List, [], ◌∷◌, ◌++◌, map, refl, ap, ◌∙◌, arith}
 use Rattle.std.specs.Prelude.{filter, not, ◌&&◌, nat_le}
 use Rattle.text_model.specs.declared.line.Line.{Line}
 use Rattle.text_model.specs.declared.line.Line.TheVariants as line
@@ -11,7 +11,7 @@ use Rattle.object_model.specs.Object.{Object}
 use Rattle.store_model.specs.Store.{Store}
 use Rattle.store_model.specs.Links.{link_ends}
 use Rattle.store_model.specs.Reach.{births_where}
-use Rattle.store_model.specs.MinorCollection.{MinorCollection, minor_lines, vanish_lines, vanishes, loss_lines, target_passes}
+use Rattle.store_model.specs.MinorCollection.{MinorCollection, vanish_lines, vanishes, loss_lines, target_passes}
 use Rattle.store_model.specs.Marking.{GoesOn, with_visited, visited_words, end_lines, is_white, is_condemned}
 use Rattle.store_model.specs.Sweeping.{husks_where, threshold_after}
 use Rattle.store_model.specs.Collections.{StepFrom, Block, always}

@@ -1,6 +1,6 @@
 -- How many steps may come before a cycle ends: each block makes them fewer.
-use Rattle.std.proofs.Common.{◌≡◌, ◌≢◌, ℕ, ◌+◌, ◌-◌, ◌*◌, ◌/◌, ◌<◌, ◌≤◌, Bool, true, false, IsTrue, IsFalse, List, [], ◌∷◌, map, length, refl, sym, ap, ◌∙◌, subst, inl, inr, arith}
-use Rattle.std.specs.Prelude.{not, ◌==◌, ◌&&◌, nat_le, suc}
+use Rattle.std.proofs.Common.{◌≡◌, ◌≢◌, ℕ, ◌+◌, ◌-◌, ◌*◌, ◌<◌, ◌≤◌, Bool, true, false, IsTrue, List, [], ◌∷◌, map, length, refl, sym, ap, ◌∙◌, subst, inl, inr, arith}
+use Rattle.std.specs.Prelude.{not, ◌&&◌, nat_le, suc}
 use Rattle.std.specs.List.{list_all}
 use Rattle.std.proofs.Math.Nat.{div-le_self}
 use Rattle.std.proofs.lemmas.Bool.{cases_Bool}
@@ -12,13 +12,13 @@ use Rattle.text_model.specs.declared.line.Phase.TheVariants.{Scanning, Marking, 
 use Rattle.object_model.specs.declared.settings.Settings.{Settings}
 use Rattle.object_model.specs.Object.{Object}
 use Rattle.object_model.specs.Sets.{is_in}
-use Rattle.object_model.proofs.Members.{and_first, and_second, or_second, not_both, is_in-head, in-left, in-right}
+use Rattle.object_model.proofs.Members.{and_first, and_second, is_in-head, in-left, in-right}
 use Rattle.store_model.specs.Store.{Store, is_settled}
 use Rattle.store_model.specs.Roots.{is_kept}
-use Rattle.store_model.specs.Reach.{objects_where, births_where}
-use Rattle.store_model.specs.MinorCollection.{MinorCollection, after_minor, vanishes}
-use Rattle.store_model.specs.Marking.{MarkingStep, GoesOn, with_visited, visited_words, after_marking}
-use Rattle.store_model.specs.Sweeping.{SweepingStep, MayEndIn, after_sweep, after_finalizing}
+use Rattle.store_model.specs.Reach.{births_where}
+use Rattle.store_model.specs.MinorCollection.{after_minor, vanishes}
+use Rattle.store_model.specs.Marking.{GoesOn, with_visited, visited_words}
+use Rattle.store_model.specs.Sweeping.{MayEndIn, after_sweep}
 use Rattle.store_model.specs.Collections.{StepFrom, Block, always}
 use Rattle.store_model.specs.Sound.{IsSound, IsPhaseSound}
 use Rattle.store_model.proofs.After.{left_objects}
