@@ -3,11 +3,11 @@ use Rattle.std.proofs.Common.{◌≡◌, ℕ, Bool, true, false, List, [], ◌++
 use Rattle.text_model.specs.declared.line.Line.{Line}
 use Rattle.object_model.specs.Setup.{Setup}
 use Rattle.store_model.specs.Store.{Store}
-use Rattle.store_model.specs.Collections.{Block, MajorStep, When, always, is_step_due, needs_block, exceeds_limit, Collect, MakesRoom}
+use Rattle.store_model.specs.Collections.{Block, MajorStep, When, always, is_step_due}
 use Rattle.heap_parts.specs.Parts.{HeapParts}
 use Rattle.heap_parts.specs.StandsFor.{PartsStandFor}
 use Rattle.heap_parts.specs.Collects.{IsCollected, CollectsMinor, StepsMajor}
-use Rattle.collect_laws.specs.Events.{EventOf, Undergoes}
+use Rattle.collect_laws.specs.Events.{EventOf, Undergoes, Underwent}
 use Rattle.collect_laws.specs.Tests.{is_step_due_in, needs_block_in, exceeds_limit_in}
 use Rattle.collect_laws.specs.Collections.{CollectsStep, CollectsBlock, CollectsAll, MakesNurseryRoom, MakesLimitRoom, MakesRoomFor}
 use Rattle.collect_laws.proofs.TestLaws.{due_in, needs_in, exceeds_in}
@@ -63,6 +63,27 @@ not_at_all {Event = Event} {old = old} {before = before} {after = after} same qu
       appended = quiet ∙ sym (append-nil before);
       leads = λ store s. (store, event store s, s);
     })
+
+-- lines that were gathered in an empty list are told behind others
+pub told_into : {Event : EventOf} {old new : HeapParts} {before after out told : List Line} → Undergoes Event old new before after → before ≡ [] → told ≡ out ++ after
+    → Undergoes Event old new out told
+told_into {out = out} u none appended = record {
+  setup = u.setup;
+  lines = u.lines;
+  appended = appended ∙ ap (λ (ls : List Line). out ++ ls) (u.appended ∙ ap (λ (ls : List Line). ls ++ u.lines) none);
+  leads = u.leads;
+}
+
+-- what is forgotten of an event where its lines are not told, and of parts that keep what they then stand for
+pub kept_after : {Event : EventOf} {old mid new : HeapParts} {before after : List Line} → Undergoes Event old mid before after → new.setup ≡ mid.setup
+    → ((store : Store) → PartsStandFor mid store → PartsStandFor new store) → Underwent Event old new
+kept_after u setup keeps = record {
+  lines = u.lines;
+  undergoes = record { setup = setup ∙ u.setup; lines = u.lines; appended = refl; leads = λ store s. let l = u.leads store s in (l.0, l.1, keeps l.0 l.2) };
+}
+
+pub untold : {Event : EventOf} {old new : HeapParts} {before after : List Line} → Undergoes Event old new before after → Underwent Event old new
+untold u = kept_after u refl (λ store s. s)
 
 -- an event that comes where a test says so
 pub event_comes : {b : Bool} (Event : Store → List Line → Store → Type 0) (store : Store) (lines : List Line) (later : Store) → b ≡ true → Event store lines later → When b Event store lines later

@@ -1,5 +1,5 @@
 -- What the parts of a heap test is what the store's definitions test.
-use Rattle.std.proofs.Common.{◌≡◌, ℕ, ◌+◌, Bool, sym, ap, ap₂, ◌∙◌, arith}
+use Rattle.std.proofs.Common.{◌≡◌, ℕ, ◌+◌, Bool, sym, ap, ap₂, arith}
 use Rattle.std.specs.Prelude.{not, ◌||◌, nat_lt, nat_le}
 use Rattle.text_model.specs.declared.line.Phase.{Phase}
 use Rattle.store_model.specs.Store.{Store, counted_words}

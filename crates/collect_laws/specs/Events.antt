@@ -1,5 +1,5 @@
 -- What an event does to the parts of a heap, and to each store that they stand for.
-use Rattle.std.specs.Prelude.{◌≡◌, List, ◌++◌}
+use Rattle.std.specs.Prelude.{◌≡◌, List, [], ◌++◌}
 use Rattle.text_model.specs.declared.line.Line.{Line}
 use Rattle.text_model.specs.declared.command.Command.{Command}
 use Rattle.object_model.specs.Setup.{Setup}
@@ -19,6 +19,11 @@ pub record Undergoes (Event : EventOf) (old new : HeapParts) (before after : Lis
   pub lines : List Line
   pub appended : after ≡ before ++ lines
   pub leads : (store : Store) → PartsStandFor old store → (later : Store) × Event old.setup store lines later × PartsStandFor new later
+
+-- The parts underwent an event of whose lines nothing is said.
+pub record Underwent (Event : EventOf) (old new : HeapParts) : Type 0 where
+  pub lines : List Line
+  pub undergoes : Undergoes Event old new [] lines
 
 -- the command, as an event
 abbrev pub Doing : Command → EventOf
