@@ -1,5 +1,6 @@
 //! Births.
 ghost use Rattle.std.specs.Prelude.{◌≡◌, ◌≤◌, ℕ, Some, IsTrue, IsFalse, OnOk, OnErr, IfErr, Err};
+ghost use Rattle.type_table.specs.declared.info.TypeInfo.{TypeInfo as Info};
 ghost use Rattle.type_table.specs.Table.{value_at};
 ghost use Rattle.type_table.specs.Words.{words_in};
 ghost use Rattle.nursery_gaps.specs.Nursery.{Fits};
@@ -7,8 +8,8 @@ ghost use Rattle.object_model.specs.Setup.{young_words};
 ghost use Rattle.text_model.specs.declared.command.Command.TheVariants.{NewFixed, NewArray};
 ghost use Rattle.heap_parts.specs.Births.{BearsYoung};
 ghost use Rattle.heap_core.specs.declared.fault.HeapFault.TheVariants.{Spent};
-ghost use Rattle.heap_core.specs.Bearing.{PartsAppend, IsFitting, MayBear, BearsKnown};
-ghost use Rattle.heap_core.specs.Commands.{AreReady, CanDo, PartsKeep, Performs, Keeps, fault_of};
+ghost use Rattle.heap_core.specs.Bearing.{PartsAppend, HasRoomFor, IsFitting, MayBear, BearsKnown};
+ghost use Rattle.heap_core.specs.Commands.{AreStanding, AreReady, CanDo, PartsKeep, Performs, Keeps, fault_of};
 
 use crate::fault::HeapFault;
 use crate::heap::{Heap, State};
@@ -78,6 +79,9 @@ fn bear_fixed(
     ensures err { OnErr result (PartsKeep parts.old parts.new) }
     ensures err_out { OnErr result (out.new.items ≡ out.old.items) }
 {
+    if !has_room(parts, type_id, 0) {
+        return Err(AllocError);
+    }
     bear(parts, root, type_id, 0, out)
 }
 
@@ -94,7 +98,24 @@ fn bear_array(
     ensures err { OnErr result (PartsKeep parts.old parts.new) }
     ensures err_out { OnErr result (out.new.items ≡ out.old.items) }
 {
+    if !has_room(parts, type_id, len) {
+        return Err(AllocError);
+    }
     bear(parts, root, type_id, len, out)
+}
+
+/// Whether an object of a type can be born without a collection.
+pub(crate) fn has_room(parts: &Parts, type_id: u16, items: u64) -> bool
+    requires standing { AreStanding parts.now }
+    requires items { items ≤ 16777216 }
+    ensures { IsTrue result → (info : Info) → value_at parts.now.setup.types type_id ≡ Some info → HasRoomFor parts.now (words_in info.shape items) }
+{
+    let Some(info) = parts.type_info(type_id) else {
+        return false;
+    };
+    let words = words(info, items);
+    parts.unsettled + parts.fresh + words <= parts.settings.nursery
+        && parts.unsettled + parts.old_words + words <= parts.settings.limit
 }
 
 /// An object of a type is born for a slot, and its line is appended. The error is out of memory, also where the next

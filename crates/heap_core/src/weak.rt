@@ -3,10 +3,10 @@ ghost use Rattle.std.specs.Prelude.{◌≡◌, [], ◌∷◌, IsTrue, IfOk, IfEr
 ghost use Rattle.text_model.specs.declared.command.Command.TheVariants.{NewWeak, Deref};
 ghost use Rattle.text_model.specs.declared.line.Line.TheVariants.{Derefed};
 ghost use Rattle.heap_core.specs.declared.fault.HeapFault.TheVariants.{Spent};
-ghost use Rattle.heap_core.specs.Bearing.{PartsAppend};
+ghost use Rattle.heap_core.specs.Bearing.{PartsAppend, MayBearWeak};
 ghost use Rattle.heap_core.specs.Commands.{AreReady, CanDo, PartsDo, PartsKeep, Performs, Keeps, fault_of};
 
-use crate::births::LAST_BIRTH;
+use crate::births::{LAST_BIRTH, has_room};
 use crate::fault::HeapFault;
 use crate::heap::{Heap, State};
 use heap_parts::Parts;
@@ -53,8 +53,7 @@ impl Heap {
     }
 }
 
-/// A weak object is born for a slot, with what another slot holds as its target, and its line is appended. The error is
-/// out of memory, also where the next birth would reach 2^63.
+/// A weak object is born for a slot.
 fn bear_weak(
     parts: &mut Parts,
     root: u32,
@@ -63,6 +62,26 @@ fn bear_weak(
     out: &mut Vec<Line>,
 ) -> Result<(), AllocError>
     requires { AreReady parts.old (NewWeak root type_id target) }
+    ensures does { OnOk result (PartsAppend parts.old parts.new (NewWeak root type_id target) out.old.items out.new.items) }
+    ensures err { OnErr result (PartsKeep parts.old parts.new) }
+    ensures err_out { OnErr result (out.new.items ≡ out.old.items) }
+{
+    if !has_room(parts, type_id, 0) {
+        return Err(AllocError);
+    }
+    bear_weak_in_room(parts, root, type_id, target, out)
+}
+
+/// A weak object is born for a slot, with what another slot holds as its target, and its line is appended. The error is
+/// out of memory, also where the next birth would reach 2^63.
+fn bear_weak_in_room(
+    parts: &mut Parts,
+    root: u32,
+    type_id: u16,
+    target: u32,
+    out: &mut Vec<Line>,
+) -> Result<(), AllocError>
+    requires { MayBearWeak parts.old root type_id }
     ensures does { OnOk result (PartsAppend parts.old parts.new (NewWeak root type_id target) out.old.items out.new.items) }
     ensures err { OnErr result (PartsKeep parts.old parts.new) }
     ensures err_out { OnErr result (out.new.items ≡ out.old.items) }
