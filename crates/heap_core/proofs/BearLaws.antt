@@ -1,7 +1,7 @@
 -- Births by commands.
 use Rattle.std.proofs.Common.{◌≡◌, ℕ, ◌+◌, ◌<◌, ◌≤◌, Bool, true, false, List, [], ◌∷◌, ◌++◌, Option, Some, None, Result, Ok, Err, OnOk, OnErr, refl, sym, ap, ◌∙◌, subst, arith}
 use Rattle.std.specs.declared.alloc.AllocError.{AllocError}
-use Rattle.std.specs.Prelude.{not, nat_lt}
+use Rattle.std.specs.Prelude.{not}
 use Rattle.std.proofs.lemmas.Bool.{ltb-false}
 use Rattle.std.proofs.lemmas.Bool.Decides.{nat_tests}
 use Rattle.type_table.specs.declared.info.Shape.{Shape}
@@ -12,7 +12,7 @@ use Rattle.type_table.specs.Words.{words_in}
 use Rattle.nursery_gaps.specs.Nursery.{Fits}
 use Rattle.text_model.specs.Range.{is_above, is_above_ids, is_above_items}
 use Rattle.text_model.specs.declared.command.Command.TheVariants.{NewFixed, NewArray}
-use Rattle.text_model.specs.declared.item.Reason.TheVariants.{NotBuilt, WrongShape, Range}
+use Rattle.text_model.specs.declared.item.Reason.TheVariants.{WrongShape, Range}
 use Rattle.text_model.specs.declared.line.Line.{Line}
 use Rattle.text_model.specs.declared.line.Line.TheVariants.{Born}
 use Rattle.object_model.specs.Setup.{young_words}
@@ -20,17 +20,15 @@ use Rattle.object_model.specs.Newborn.{Request}
 use Rattle.object_model.specs.Shapes.{is_fixed_shape, is_array_shape, is_weak_shape}
 use Rattle.store_model.specs.Store.{Store, unsettled_words, counted_words}
 use Rattle.store_model.specs.Checks.{first_reason, born_checks}
-use Rattle.store_model.specs.Births.{array_request, words_of_type, BirthWithRoom, BirthWithRoomOf, Births}
+use Rattle.store_model.specs.Births.{array_request, BirthWithRoom, BirthWithRoomOf, Births}
 use Rattle.store_model.specs.Birth.{with_birth}
 use Rattle.store_model.specs.Collections.{MakesRoom, needs_block, exceeds_limit}
 use Rattle.store_model.specs.Steps.{Does}
-use Rattle.store_model.specs.Unbuilt.{needs_collection}
 use Rattle.heap_parts.specs.Parts.{HeapParts}
-use Rattle.heap_parts.specs.Told.{room_told}
 use Rattle.heap_parts.specs.StandsFor.{PartsStandFor}
 use Rattle.heap_parts.specs.Births.{HasNurseryRoom, HasOldRoom, BearsYoung, BearsOld}
 use Rattle.heap_core.specs.Commands.{AreStanding, AreReady}
-use Rattle.heap_core.specs.Bearing.{PartsAppend, IsFitting, MayBear, BearsKnown}
+use Rattle.heap_core.specs.Bearing.{PartsAppend, IsAsked, MayAsk, HasRoomFor, IsFitting, MayBear, BearsKnown}
 use Rattle.nursery_gaps.specs.Ranges.{Range as NurseryRange, AreRising}
 use Rattle.heap_core.proofs.Ready.{passed, one_slot, or_false}
 use Rattle.heap_core.proofs.LookLaws.{counted_told}
@@ -58,38 +56,48 @@ not-false : (b : Bool) → not b ≡ false → b ≡ true
 not-false true e = refl
 not-false false e = absurd (let no : ⊥ = cc in no)
 
--- a birth that is not refused fits
+-- a birth that is not refused may be asked for
 birth_passed : (found : Option TypeInfo) (heap : HeapParts) (test : Shape → Bool) (root type_id items : ℕ) → AreStanding heap → value_at heap.setup.types type_id ≡ found
     → ((shape : Shape) → test shape ≡ true → is_weak_shape shape ≡ false) → root < heap.setup.settings.roots → items ≤ 16777216
-    → first_reason (born_checks found test ++ (needs_collection heap.setup (room_told heap) (words_of_type found items), NotBuilt) ∷ []) ≡ None
-    → MayBear heap root type_id items
+    → first_reason (born_checks found test) ≡ None → MayAsk heap root type_id items
 birth_passed None heap test root type_id items standing found plain l few e = absurd (let no : ⊥ = cc in no)
 birth_passed (Some info) heap test root type_id items standing found plain l few e =
-    let settings = heap.setup.settings in let n : ℕ = words_in info.shape items in
-    let shaped = passed (not (test info.shape)) WrongShape _ e in
-    let room = or_false (nat_lt settings.nursery (heap.unsettled + heap.fresh + n)) (nat_lt settings.limit (heap.unsettled + heap.old_words + n)) (passed _ NotBuilt None shaped.1).0 in record {
+    let shaped = passed (not (test info.shape)) WrongShape None e in record {
       info = info;
       plain = plain info.shape (not-false (test info.shape) shaped.0);
-      fits = record {
-        standing = standing;
-        known = found;
-        root_in = l;
-        items_few = few;
-        nursery = ltb-false settings.nursery (heap.unsettled + heap.fresh + n) room.0;
-        limit = ltb-false settings.limit (heap.unsettled + heap.old_words + n) room.1;
-      };
+      asked = record { standing = standing; known = found; root_in = l; items_few = few };
     }
 
-pub fixed_may : (heap : HeapParts) (root type_id : ℕ) → AreReady heap (NewFixed root type_id) → MayBear heap root type_id 0
+pub fixed_may : (heap : HeapParts) (root type_id : ℕ) → AreReady heap (NewFixed root type_id) → MayAsk heap root type_id 0
 fixed_may heap root type_id ready =
-    let one = one_slot heap.setup.settings.roots root (is_above (NewFixed root type_id)) false _ ready.accepted in
+    let one = one_slot heap.setup.settings.roots root (is_above (NewFixed root type_id)) _ ready.accepted in
     birth_passed (value_at heap.setup.types type_id) heap is_fixed_shape root type_id 0 ready.standing refl fixed-plain one.0 (omega arith) one.1
 
-pub array_may : (heap : HeapParts) (root type_id len : ℕ) → AreReady heap (NewArray root type_id len) → MayBear heap root type_id len
+pub array_may : (heap : HeapParts) (root type_id len : ℕ) → AreReady heap (NewArray root type_id len) → MayAsk heap root type_id len
 array_may heap root type_id len ready =
-    let one = one_slot heap.setup.settings.roots root (is_above (NewArray root type_id len)) false _ ready.accepted in
+    let one = one_slot heap.setup.settings.roots root (is_above (NewArray root type_id len)) _ ready.accepted in
     birth_passed (value_at heap.setup.types type_id) heap is_array_shape root type_id len ready.standing refl array-plain one.0
     (len_in_range root type_id len (passed (is_above (NewArray root type_id len)) Range _ ready.accepted).0) one.1
+
+-- what is asked for is born where there is room
+pub fits_in_room : (heap : HeapParts) (root type_id items : ℕ) (info : TypeInfo) → IsAsked heap root type_id info items → HasRoomFor heap (words_in info.shape items)
+    → IsFitting heap root type_id info items
+fits_in_room heap root type_id items info asked room = record {
+  standing = asked.standing;
+  known = asked.known;
+  root_in = asked.root_in;
+  items_few = asked.items_few;
+  nursery = room.nursery;
+  limit = room.limit;
+}
+
+pub may_in_room : (heap : HeapParts) (root type_id items : ℕ) → MayAsk heap root type_id items
+    → ((info : TypeInfo) → value_at heap.setup.types type_id ≡ Some info → HasRoomFor heap (words_in info.shape items)) → MayBear heap root type_id items
+may_in_room heap root type_id items may room = record {
+  info = may.info;
+  plain = may.plain;
+  fits = fits_in_room heap root type_id items may.info may.asked (room may.info may.asked.known);
+}
 
 -- a type that was found is the one that fits
 pub fits_found : (heap : HeapParts) (root type_id items : ℕ) (info : TypeInfo) → MayBear heap root type_id items → value_at heap.setup.types type_id ≡ Some info → IsFitting heap root type_id info items
@@ -230,33 +238,33 @@ births_of heap new root type_id items before after may b store s =
     (with_birth b.bears.is_old store b.info (array_request root type_id items))) (sym b.known)
     (birth_with_room heap store (array_request root type_id items) b.info b.bears.is_old f s b.bears.large b.bears.small)
 
-pub fixed_does : (heap new : HeapParts) (root type_id : ℕ) (before after : List Line) → AreReady heap (NewFixed root type_id) → BearsKnown heap new root type_id 0 before after
+pub fixed_does : (heap new : HeapParts) (root type_id : ℕ) (before after : List Line) → MayBear heap root type_id 0 → BearsKnown heap new root type_id 0 before after
     → PartsAppend heap new (NewFixed root type_id) before after
 unfolding Does
-fixed_does heap new root type_id before after ready b = record {
+fixed_does heap new root type_id before after may b = record {
   lines = Born heap.next b.bears.is_old ∷ [];
   appended = b.bears.appended;
   does = record {
     setup = b.bears.setup;
     does = λ store s. (
       with_birth b.bears.is_old store b.info (array_request root type_id 0),
-      births_of heap new root type_id 0 before after (fixed_may heap root type_id ready) b store s,
+      births_of heap new root type_id 0 before after may b store s,
       b.bears.stands store s,
     );
   };
 }
 
-pub array_does : (heap new : HeapParts) (root type_id len : ℕ) (before after : List Line) → AreReady heap (NewArray root type_id len) → BearsKnown heap new root type_id len before after
+pub array_does : (heap new : HeapParts) (root type_id len : ℕ) (before after : List Line) → MayBear heap root type_id len → BearsKnown heap new root type_id len before after
     → PartsAppend heap new (NewArray root type_id len) before after
 unfolding Does
-array_does heap new root type_id len before after ready b = record {
+array_does heap new root type_id len before after may b = record {
   lines = Born heap.next b.bears.is_old ∷ [];
   appended = b.bears.appended;
   does = record {
     setup = b.bears.setup;
     does = λ store s. (
       with_birth b.bears.is_old store b.info (array_request root type_id len),
-      births_of heap new root type_id len before after (array_may heap root type_id len ready) b store s,
+      births_of heap new root type_id len before after may b store s,
       b.bears.stands store s,
     );
   };

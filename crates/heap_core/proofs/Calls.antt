@@ -4,16 +4,15 @@ use Rattle.text_model.specs.declared.command.Command.{Command}
 use Rattle.text_model.specs.declared.line.Line.{Line}
 use Rattle.store_model.specs.Store.{Store}
 use Rattle.store_model.specs.Look.{look}
-use Rattle.store_model.specs.Unbuilt.{room_of}
 use Rattle.heap_parts.specs.Parts.{HeapParts}
 use Rattle.heap_parts.specs.StandsFor.{PartsStandFor}
 use Rattle.heap_core.specs.declared.heap.State.{State}
 use Rattle.heap_core.specs.declared.heap.State.TheVariants.{Closed, Spent}
 use Rattle.heap_core.specs.Heap.{HeapSeen, heap_of, spent_heap, StandsFor}
 use Rattle.heap_core.specs.Seen.{seen}
-use Rattle.heap_core.specs.Commands.{AreStanding, AreReady, IsStanding, CanDo, PartsDo, PartsKeep, Performs, Keeps, told_by, room_by}
+use Rattle.heap_core.specs.Commands.{AreStanding, AreReady, IsStanding, CanDo, PartsDo, PartsKeep, Performs, Keeps, told_by}
 use Rattle.heap_core.specs.Bearing.{PartsAppend}
-use Rattle.heap_core.proofs.LookLaws.{look_told, room_is}
+use Rattle.heap_core.proofs.LookLaws.{look_told}
 
 -- what is seen of a heap in a state
 pub in_state : (now : HeapSeen) (inside state : State) → seen inside ≡ now → inside ≡ state → now ≡ seen state
@@ -77,10 +76,6 @@ keeps_same now new is = subst (λ (h : HeapSeen). Keeps now h) (sym is) (record 
 pub look_by : (now : HeapSeen) (parts : HeapParts) → now ≡ heap_of parts → (store : Store) → StandsFor now store → look store ≡ told_by now
 look_by now parts is store stands =
     look_told parts store (stands_of now parts store is stands) ∙ sym (ap (λ (h : HeapSeen). told_by h) is)
-
-pub room_seen : (now : HeapSeen) (parts : HeapParts) → now ≡ heap_of parts → (store : Store) → StandsFor now store → room_of store ≡ room_by now
-room_seen now parts is store stands =
-    room_is parts store (stands_of now parts store is stands) ∙ sym (ap (λ (h : HeapSeen). room_by h) is)
 
 -- and append its lines
 pub performs_appended : (now new : HeapSeen) (parts after : HeapParts) (command : Command) (before behind : List Line)

@@ -25,7 +25,7 @@ told-there place told full = rw (ne_eqb place 0 full) refl
 pub register_ready : (heap : HeapParts) (root queue : ℕ) → AreReady heap (Register root queue) → CanRegister heap root queue
 register_ready heap root queue ready =
     let place : ℕ = place_in heap root in let known : Bool = is_final heap place in
-    let one = one_slot heap.setup.settings.roots root (is_above (Register root queue)) false _ ready.accepted in
+    let one = one_slot heap.setup.settings.roots root (is_above (Register root queue)) _ ready.accepted in
     let two = passed (is_none (kind_at heap.setup.types (word_in heap) place)) NilRoot _ one.1 in
     let three = passed (nat_le heap.setup.settings.queues queue) NoQueue _ two.1 in
     let four = passed (if_there place known) Registered _ three.1 in
@@ -38,4 +38,4 @@ register_ready heap root queue ready =
 
 pub next_ready : (heap : HeapParts) (to queue : ℕ) → AreReady heap (NextFinal to queue) → to < length heap.slots
 next_ready heap to queue ready =
-    slot_in heap to ready.standing (one_slot heap.setup.settings.roots to (is_above (NextFinal to queue)) false _ ready.accepted).0
+    slot_in heap to ready.standing (one_slot heap.setup.settings.roots to (is_above (NextFinal to queue)) _ ready.accepted).0

@@ -6,7 +6,7 @@ use Rattle.type_table.specs.declared.info.TypeInfo.{TypeInfo}
 use Rattle.type_table.specs.Table.{Table}
 use Rattle.text_model.specs.declared.command.Command.TheVariants.{Ident, Hash, Place}
 use Rattle.text_model.specs.declared.item.Reason.{Reason}
-use Rattle.text_model.specs.declared.item.Reason.TheVariants.{NoRoot, NilRoot, NotBuilt, Range}
+use Rattle.text_model.specs.declared.item.Reason.TheVariants.{NoRoot, NilRoot, Range}
 use Rattle.text_model.specs.Range.{is_above}
 use Rattle.heap_parts.specs.Parts.{HeapParts, word_in, place_in}
 use Rattle.heap_parts.specs.Told.{kind_at}
@@ -28,12 +28,12 @@ pub record FullSlot (heap : HeapParts) (root : ℕ) : Type 0 where
 
 -- the slot that a command names is there and not empty, and the other checks are passed
 pub full_slot : (heap : HeapParts) (root : ℕ) (above : Bool) (rest : Option Reason) → AreStanding heap
-    → cond above (Some Range) (cond false (Some NotBuilt) (cond (nat_le heap.setup.settings.roots root) (Some NoRoot)
-    (cond (is_none (kind_at heap.setup.types (word_in heap) (place_in heap root))) (Some NilRoot) rest))) ≡ None
+    → cond above (Some Range) (cond (nat_le heap.setup.settings.roots root) (Some NoRoot)
+    (cond (is_none (kind_at heap.setup.types (word_in heap) (place_in heap root))) (Some NilRoot) rest)) ≡ None
     → FullSlot heap root × (rest ≡ None)
 full_slot heap root above rest standing e =
     let nil : Bool = is_none (kind_at heap.setup.types (word_in heap) (place_in heap root)) in
-    let one = one_slot heap.setup.settings.roots root above false (cond nil (Some NilRoot) rest) e in
+    let one = one_slot heap.setup.settings.roots root above (cond nil (Some NilRoot) rest) e in
     let two = passed nil NilRoot rest one.1 in
     let full = full-place heap.setup.types (word_in heap) (place_in heap root) two.0 in
     (record { full = full; object = object_in_slot heap root standing one.0 full }, two.1)

@@ -20,13 +20,12 @@ use Rattle.store_model.specs.Sound.{waiting_births}
 use Rattle.store_model.specs.StructChecks.{has_p_link, is_p_link_of}
 use Rattle.store_model.specs.Structs.{state_of, p_link_of, with_object}
 use Rattle.store_model.specs.Look.{look, is_held_in}
-use Rattle.store_model.specs.Unbuilt.{room_of}
 use Rattle.heap_parts.specs.Parts.{HeapParts, word_in, place_in, pinned_places}
 use Rattle.heap_parts.specs.NamedFinals.{final_births}
 use Rattle.heap_parts.specs.Registers.{is_final}
 use Rattle.heap_parts.specs.Places.{is_young}
 use Rattle.heap_parts.specs.StandsFor.{PartsStandFor}
-use Rattle.heap_parts.specs.Told.{kind_from, kind_at, if_there, has_p_link_at, told, room_told}
+use Rattle.heap_parts.specs.Told.{kind_from, kind_at, if_there, has_p_link_at, told}
 use Rattle.frame_laws.proofs.PlaceLaws.{placed_words, is_in-young, is_in-old, young-is_in}
 use Rattle.frame_laws.proofs.SlotLaws.{slot-pointer, pointer-some}
 use Rattle.store_model.proofs.StructLaws.{value_at-objects}
@@ -146,10 +145,3 @@ module _ (heap : HeapParts) (store : Store) (s : PartsStandFor heap store) where
   counted_told =
       let words = placed_words store.settled s.words.objects s.births.settled_are in
       omega (arith, words.all, words.unsettled, words.settled_are, s.sums.unsettled_are, s.sums.old_are)
-
-  pub room_is : room_of store ≡ room_told heap
-  room_is = λ i. record {
-    unsettled = sym s.sums.unsettled_are i;
-    fresh = s.counts.fresh_is i;
-    counted = sym counted_told i;
-  }

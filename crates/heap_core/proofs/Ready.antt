@@ -1,5 +1,5 @@
 -- What is known of the parts of a heap where a command is not refused.
-use Rattle.std.proofs.Common.{◌≡◌, ◌≢◌, ℕ, ◌<◌, Bool, true, false, cond, [], ◌∷◌, ◌++◌, length, Option, Some, None, refl, subst, inl, inr, arith}
+use Rattle.std.proofs.Common.{◌≡◌, ◌≢◌, ℕ, ◌<◌, Bool, true, false, cond, length, Option, Some, None, refl, subst, inl, inr, arith}
 use Rattle.std.specs.Prelude.{not, nat_le, ◌≤◌, ◌||◌}
 use Rattle.std.proofs.lemmas.Bool.{leb-false, ltb-false}
 use Rattle.std.proofs.lemmas.Bool.Decides.{eqb_tells}
@@ -7,11 +7,11 @@ use Rattle.type_table.specs.declared.info.TypeInfo.{TypeInfo}
 use Rattle.type_table.specs.Table.{Table}
 use Rattle.text_model.specs.declared.command.Command.TheVariants.{Put, Get, Link, Load, MoveRoot, DropRoot}
 use Rattle.text_model.specs.declared.item.Reason.{Reason}
-use Rattle.text_model.specs.declared.item.Reason.TheVariants.{NoRoot, WrongShape, NoItem, NotBuilt, Range}
+use Rattle.text_model.specs.declared.item.Reason.TheVariants.{NoRoot, WrongShape, NoItem, Range}
 use Rattle.text_model.specs.Range.{is_above, is_above_ids, is_above_items}
 use Rattle.object_model.specs.declared.kind.Kind.{Kind}
 use Rattle.object_model.specs.Shapes.{holds_ints, holds_refs}
-use Rattle.store_model.specs.Checks.{Checks, first_reason, int_checks, ref_checks}
+use Rattle.store_model.specs.Checks.{first_reason, int_checks, ref_checks}
 use Rattle.heap_parts.specs.Parts.{HeapParts, word_in, place_in}
 use Rattle.heap_parts.specs.Told.{kind_from, kind_at}
 use Rattle.heap_parts.specs.Effects.{HasObjectIn, layout_in}
@@ -24,16 +24,16 @@ passed true reason rest e = cc
 passed false reason rest e = (refl, e)
 
 -- a whole number that is used without refusal is there
-int_passed : (kind : Option Kind) (item : ℕ) (more : Checks) → first_reason (int_checks kind item ++ more) ≡ None → (k : Kind) × (kind ≡ Some k) × (item < k.ints)
-int_passed None item more e = absurd (let no : ⊥ = cc in no)
-int_passed (Some k) item more e =
+int_passed : (kind : Option Kind) (item : ℕ) → first_reason (int_checks kind item) ≡ None → (k : Kind) × (kind ≡ Some k) × (item < k.ints)
+int_passed None item e = absurd (let no : ⊥ = cc in no)
+int_passed (Some k) item e =
     let shaped = passed (not (holds_ints k.shape)) WrongShape _ e in
     (k, refl, leb-false k.ints item (passed (nat_le k.ints item) NoItem _ shaped.1).0)
 
 -- a reference that is used without refusal is there
-ref_passed : (kind : Option Kind) (item : ℕ) (more : Checks) → first_reason (ref_checks kind item ++ more) ≡ None → (k : Kind) × (kind ≡ Some k) × (item < k.refs)
-ref_passed None item more e = absurd (let no : ⊥ = cc in no)
-ref_passed (Some k) item more e =
+ref_passed : (kind : Option Kind) (item : ℕ) → first_reason (ref_checks kind item) ≡ None → (k : Kind) × (kind ≡ Some k) × (item < k.refs)
+ref_passed None item e = absurd (let no : ⊥ = cc in no)
+ref_passed (Some k) item e =
     let shaped = passed (not (holds_refs k.shape)) WrongShape _ e in
     (k, refl, leb-false k.refs item (passed (nat_le k.refs item) NoItem _ shaped.1).0)
 
@@ -44,10 +44,6 @@ kind-some types word place k e = elim (eqb_tells place 0) [
   | inl is ↦ absurd (let none : kind_at types word place ≡ None = rw is.0 refl in let no : ⊥ = cc in no)
   | inr is ↦ (is.1, let some : kind_at types word place ≡ Some (kind_from types word place) = rw is.0 refl in let same : k ≡ kind_from types word place = cc in same)
 ]
-
--- behind the checks of a command that bears no object
-abbrev pub no_birth : Checks
-no_birth = (false, NotBuilt) ∷ []
 
 -- The object in a slot can be used, and has such a whole number.
 pub record HasInt (heap : HeapParts) (root item : ℕ) : Type 0 where
@@ -72,20 +68,20 @@ object_in_slot heap root standing l full =
 pub slot_in : (heap : HeapParts) (root : ℕ) → AreStanding heap → root < heap.setup.settings.roots → root < length heap.slots
 slot_in heap root standing l = omega (arith, l, standing.stands.slots.many)
 
-has_int : (heap : HeapParts) (root item : ℕ) (more : Checks) → AreStanding heap → root < heap.setup.settings.roots
-    → first_reason (int_checks (kind_at heap.setup.types (word_in heap) (place_in heap root)) item ++ more) ≡ None → HasInt heap root item
-has_int heap root item more standing l e =
-    let found = int_passed (kind_at heap.setup.types (word_in heap) (place_in heap root)) item more e in
+has_int : (heap : HeapParts) (root item : ℕ) → AreStanding heap → root < heap.setup.settings.roots
+    → first_reason (int_checks (kind_at heap.setup.types (word_in heap) (place_in heap root)) item) ≡ None → HasInt heap root item
+has_int heap root item standing l e =
+    let found = int_passed (kind_at heap.setup.types (word_in heap) (place_in heap root)) item e in
     let is = kind-some heap.setup.types (word_in heap) (place_in heap root) found.0 found.1 in record {
       full = is.0;
       object = object_in_slot heap root standing l is.0;
       item_in = subst (λ (k : Kind). item < k.ints) is.1 found.2;
     }
 
-has_ref : (heap : HeapParts) (root item : ℕ) (more : Checks) → AreStanding heap → root < heap.setup.settings.roots
-    → first_reason (ref_checks (kind_at heap.setup.types (word_in heap) (place_in heap root)) item ++ more) ≡ None → HasRef heap root item
-has_ref heap root item more standing l e =
-    let found = ref_passed (kind_at heap.setup.types (word_in heap) (place_in heap root)) item more e in
+has_ref : (heap : HeapParts) (root item : ℕ) → AreStanding heap → root < heap.setup.settings.roots
+    → first_reason (ref_checks (kind_at heap.setup.types (word_in heap) (place_in heap root)) item) ≡ None → HasRef heap root item
+has_ref heap root item standing l e =
+    let found = ref_passed (kind_at heap.setup.types (word_in heap) (place_in heap root)) item e in
     let is = kind-some heap.setup.types (word_in heap) (place_in heap root) found.0 found.1 in record {
       full = is.0;
       object = object_in_slot heap root standing l is.0;
@@ -93,42 +89,41 @@ has_ref heap root item more standing l e =
     }
 
 -- one slot that a command names is there, and the other checks are passed
-pub one_slot : (roots root : ℕ) (above unbuilt : Bool) (rest : Option Reason)
-    → cond above (Some Range) (cond unbuilt (Some NotBuilt) (cond (nat_le roots root) (Some NoRoot) rest)) ≡ None → (root < roots) × (rest ≡ None)
-one_slot roots root above unbuilt rest e =
-    let two = passed unbuilt NotBuilt _ (passed above Range (cond unbuilt (Some NotBuilt) (cond (nat_le roots root) (Some NoRoot) rest)) e).1 in
-    let one = passed (nat_le roots root) NoRoot rest two.1 in
+pub one_slot : (roots root : ℕ) (above : Bool) (rest : Option Reason)
+    → cond above (Some Range) (cond (nat_le roots root) (Some NoRoot) rest) ≡ None → (root < roots) × (rest ≡ None)
+one_slot roots root above rest e =
+    let one = passed (nat_le roots root) NoRoot rest (passed above Range (cond (nat_le roots root) (Some NoRoot) rest) e).1 in
     (leb-false roots root one.0, one.1)
 
 pub put_ready : (heap : HeapParts) (root item value : ℕ) → AreReady heap (Put root item value) → HasInt heap root item
 put_ready heap root item value ready =
-    let one = one_slot heap.setup.settings.roots root (is_above (Put root item value)) false _ ready.accepted in
-    has_int heap root item no_birth ready.standing one.0 one.1
+    let one = one_slot heap.setup.settings.roots root (is_above (Put root item value)) _ ready.accepted in
+    has_int heap root item ready.standing one.0 one.1
 
 pub get_ready : (heap : HeapParts) (root item : ℕ) → AreReady heap (Get root item) → HasInt heap root item
 get_ready heap root item ready =
-    let one = one_slot heap.setup.settings.roots root (is_above (Get root item)) false _ ready.accepted in
-    has_int heap root item no_birth ready.standing one.0 one.1
+    let one = one_slot heap.setup.settings.roots root (is_above (Get root item)) _ ready.accepted in
+    has_int heap root item ready.standing one.0 one.1
 
 pub link_ready : (heap : HeapParts) (root item from : ℕ) → AreReady heap (Link root item from) → HasRef heap root item
 link_ready heap root item from ready =
-    let one = one_slot heap.setup.settings.roots root (is_above (Link root item from)) false _ ready.accepted in
+    let one = one_slot heap.setup.settings.roots root (is_above (Link root item from)) _ ready.accepted in
     let two = passed (nat_le heap.setup.settings.roots from) NoRoot _ one.1 in
-    has_ref heap root item no_birth ready.standing one.0 two.1
+    has_ref heap root item ready.standing one.0 two.1
 
 pub load_ready : (heap : HeapParts) (to root item : ℕ) → AreReady heap (Load to root item) → (to < length heap.slots) × HasRef heap root item
 load_ready heap to root item ready =
-    let one = one_slot heap.setup.settings.roots to (is_above (Load to root item)) false _ ready.accepted in
+    let one = one_slot heap.setup.settings.roots to (is_above (Load to root item)) _ ready.accepted in
     let two = passed (nat_le heap.setup.settings.roots root) NoRoot _ one.1 in
-    (slot_in heap to ready.standing one.0, has_ref heap root item no_birth ready.standing (leb-false heap.setup.settings.roots root two.0) two.1)
+    (slot_in heap to ready.standing one.0, has_ref heap root item ready.standing (leb-false heap.setup.settings.roots root two.0) two.1)
 
 pub move_ready : (heap : HeapParts) (to from : ℕ) → AreReady heap (MoveRoot to from) → to < length heap.slots
 move_ready heap to from ready =
-    slot_in heap to ready.standing (one_slot heap.setup.settings.roots to (is_above (MoveRoot to from)) false _ ready.accepted).0
+    slot_in heap to ready.standing (one_slot heap.setup.settings.roots to (is_above (MoveRoot to from)) _ ready.accepted).0
 
 pub drop_ready : (heap : HeapParts) (root : ℕ) → AreReady heap (DropRoot root) → root < length heap.slots
 drop_ready heap root ready =
-    slot_in heap root ready.standing (one_slot heap.setup.settings.roots root (is_above (DropRoot root)) false _ ready.accepted).0
+    slot_in heap root ready.standing (one_slot heap.setup.settings.roots root (is_above (DropRoot root)) _ ready.accepted).0
 
 pub or_false : (a b : Bool) → (a || b) ≡ false → (a ≡ false) × (b ≡ false)
 or_false true b e = absurd (let no : ⊥ = cc in no)

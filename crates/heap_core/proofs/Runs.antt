@@ -1,5 +1,5 @@
 -- A heap that stands for a known store: which commands it can do, and what it stands for after a call.
-use Rattle.std.proofs.Common.{◌≡◌, ℕ, ◌≤◌, Bool, true, false, List, Option, Some, None, option_map, refl, sym, ap, ◌∙◌, subst}
+use Rattle.std.proofs.Common.{◌≡◌, ℕ, ◌≤◌, Bool, true, false, List, Option, Some, None, option_map, sym, ap, ◌∙◌, subst}
 use Rattle.type_table.specs.declared.info.TypeInfo.{TypeInfo}
 use Rattle.type_table.specs.Table.{Table}
 use Rattle.type_table.specs.Words.{words_in}
@@ -15,33 +15,31 @@ use Rattle.store_model.specs.Checks.{first_reason}
 use Rattle.store_model.specs.Collections.{When, needs_block, exceeds_limit}
 use Rattle.store_model.specs.Look.{Look, look}
 use Rattle.store_model.specs.Steps.{Does}
-use Rattle.store_model.specs.Unbuilt.{Room, room_of, program_checks}
+use Rattle.store_model.specs.Refusal.{command_checks}
 use Rattle.heap_parts.specs.Parts.{HeapParts}
-use Rattle.heap_parts.specs.Told.{told}
 use Rattle.heap_core.specs.Heap.{HeapSeen, StandsFor, StandsForIf}
 use Rattle.heap_core.specs.Commands.{CanDo, CanDoIf, OfParts, IsFresh, Performs, setup_in}
 use Rattle.heap_core.specs.TestStores.{Runs}
-use Rattle.heap_core.proofs.LookLaws.{look_told, room_is}
+use Rattle.heap_core.proofs.LookLaws.{look_told}
 
 same_setup : (parts : HeapParts) (setup : Setup) → Some parts.setup ≡ Some setup → parts.setup ≡ setup
 same_setup parts setup e = cc
 
 can_if : (setup : Setup) (spent : Bool) (parts : Option HeapParts) (store : Store) (command : Command)
     → option_map (λ (p : HeapParts). p.setup) parts ≡ Some setup → StandsForIf spent parts store
-    → first_reason (program_checks setup (look store) (room_of store) command) ≡ None → CanDoIf spent parts command
+    → first_reason (command_checks setup (look store) command) ≡ None → CanDoIf spent parts command
 can_if setup true parts store command is stands passed = tt
 can_if setup false None store command is stands passed = absurd (let no : ⊥ = cc in no)
 can_if setup false (Some parts) store command is stands passed = record {
   standing = record { store = store; stands = stands };
   accepted =
-      subst (λ (room : Room). first_reason (program_checks parts.setup (told parts) room command) ≡ None) (room_is parts store stands)
-      (subst (λ (seen : Look). first_reason (program_checks parts.setup seen (room_of store) command) ≡ None) (look_told parts store stands)
-      (subst (λ (s : Setup). first_reason (program_checks s (look store) (room_of store) command) ≡ None) (sym (same_setup parts setup is)) passed));
+      subst (λ (seen : Look). first_reason (command_checks parts.setup seen command) ≡ None) (look_told parts store stands)
+      (subst (λ (s : Setup). first_reason (command_checks s (look store) command) ≡ None) (sym (same_setup parts setup is)) passed);
 }
 
 -- it can do what is not refused in the store
 pub can_do : (setup : Setup) (heap : HeapSeen) (store : Store) (command : Command) → Runs setup heap store
-    → first_reason (program_checks setup (look store) (room_of store) command) ≡ None → CanDo heap command
+    → first_reason (command_checks setup (look store) command) ≡ None → CanDo heap command
 can_do setup heap store command runs passed = can_if setup heap.is_spent heap.parts store command runs.setup_is runs.stands passed
 
 -- it was just started

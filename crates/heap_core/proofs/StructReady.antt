@@ -1,5 +1,5 @@
 -- What is known of C structures where a command on them is not refused.
-use Rattle.std.proofs.Common.{◌≡◌, ◌≢◌, ℕ, ◌<◌, ◌≤◌, Bool, true, false, IsTrue, ◌++◌, length, Option, Some, None, refl, sym, ap, subst, inl, inr}
+use Rattle.std.proofs.Common.{◌≡◌, ◌≢◌, ℕ, ◌<◌, ◌≤◌, Bool, true, false, IsTrue, length, Option, Some, None, refl, sym, ap, subst, inl, inr}
 use Rattle.std.specs.Prelude.{not, nat_le, is_none, is_some, ◌&&◌, ◌||◌, IsSome, IsSomeAnd}
 use Rattle.std.proofs.lemmas.Bool.{leb-false, ltb-false, ne_eqb}
 use Rattle.std.proofs.lemmas.Bool.Decides.{eqb_tells}
@@ -8,7 +8,7 @@ use Rattle.type_table.specs.Table.{Table, value_at}
 use Rattle.text_model.specs.declared.command.Command.TheVariants.{MakeLink, Inc, Dec as DecCommand, Count, FromObj, ToObj}
 use Rattle.text_model.specs.declared.item.Reason.TheVariants.{NilRoot, StructUsed, HasPLink, CountFull, CountZero, Range}
 use Rattle.text_model.specs.Range.{is_above, is_above_ids, is_above_counts}
-use Rattle.store_model.specs.Checks.{Checks, first_reason}
+use Rattle.store_model.specs.Checks.{first_reason}
 use Rattle.store_model.specs.StructChecks.{is_absent, struct_checks, inc_checks, dec_checks}
 use Rattle.store_model.specs.Store.{Struct, Linked, Unlinked, Pending}
 use Rattle.store_model.specs.Structs.{state_of, p_link_of}
@@ -17,28 +17,28 @@ use Rattle.heap_parts.specs.Parts.{HeapParts, word_in, place_in}
 use Rattle.heap_parts.specs.Told.{kind_at, if_there}
 use Rattle.store_model.proofs.StructChanges as rises
 use Rattle.heap_core.specs.Commands.{AreReady}
-use Rattle.heap_core.proofs.Ready.{passed, one_slot, slot_in, or_false, no_birth}
+use Rattle.heap_core.proofs.Ready.{passed, one_slot, slot_in, or_false}
 
 -- a structure that is used without refusal is there
-struct_found : (found : Option Struct) (more : Checks) → first_reason (struct_checks (state_of found) ++ more) ≡ None → (t : Struct) × (found ≡ Some t)
-struct_found None more e = absurd (let no : ⊥ = cc in no)
-struct_found (Some t) more e = (t, refl)
+struct_found : (found : Option Struct) → first_reason (struct_checks (state_of found)) ≡ None → (t : Struct) × (found ≡ Some t)
+struct_found None e = absurd (let no : ⊥ = cc in no)
+struct_found (Some t) e = (t, refl)
 
 -- a count that is raised without refusal can rise
-rise_found : (found : Option Struct) (more : Checks) → first_reason (inc_checks (state_of found) ++ more) ≡ None → (t : Struct) × (found ≡ Some t) × rises.CanRise t
-rise_found None more e = absurd (let no : ⊥ = cc in no)
-rise_found (Some (Linked p light object own)) more e =
-    (Linked p light object own, refl, leb-false 4294967295 own (passed (nat_le 4294967295 own) CountFull (first_reason more) e).0)
-rise_found (Some (Unlinked own)) more e = (Unlinked own, refl, leb-false 4294967295 own (passed (nat_le 4294967295 own) CountFull (first_reason more) e).0)
-rise_found (Some Pending) more e = absurd (let no : ⊥ = cc in no)
+rise_found : (found : Option Struct) → first_reason (inc_checks (state_of found)) ≡ None → (t : Struct) × (found ≡ Some t) × rises.CanRise t
+rise_found None e = absurd (let no : ⊥ = cc in no)
+rise_found (Some (Linked p light object own)) e =
+    (Linked p light object own, refl, leb-false 4294967295 own (passed (nat_le 4294967295 own) CountFull None e).0)
+rise_found (Some (Unlinked own)) e = (Unlinked own, refl, leb-false 4294967295 own (passed (nat_le 4294967295 own) CountFull None e).0)
+rise_found (Some Pending) e = absurd (let no : ⊥ = cc in no)
 
 -- a count that is lowered without refusal can fall
-fall_found : (found : Option Struct) (more : Checks) → first_reason (dec_checks (state_of found) ++ more) ≡ None → (t : Struct) × (found ≡ Some t) × rises.CanFall t
-fall_found None more e = absurd (let no : ⊥ = cc in no)
-fall_found (Some (Linked p light object own)) more e =
-    (Linked p light object own, refl, leb-false own 0 (passed (nat_le own 0) CountZero (first_reason more) e).0)
-fall_found (Some (Unlinked own)) more e = (Unlinked own, refl, leb-false own 0 (passed (nat_le own 0) CountZero (first_reason more) e).0)
-fall_found (Some Pending) more e = absurd (let no : ⊥ = cc in no)
+fall_found : (found : Option Struct) → first_reason (dec_checks (state_of found)) ≡ None → (t : Struct) × (found ≡ Some t) × rises.CanFall t
+fall_found None e = absurd (let no : ⊥ = cc in no)
+fall_found (Some (Linked p light object own)) e =
+    (Linked p light object own, refl, leb-false own 0 (passed (nat_le own 0) CountZero None e).0)
+fall_found (Some (Unlinked own)) e = (Unlinked own, refl, leb-false own 0 (passed (nat_le own 0) CountZero None e).0)
+fall_found (Some Pending) e = absurd (let no : ⊥ = cc in no)
 
 -- where a slot is not told to be empty, its place is not 0
 pub full_place : (types : Table TypeInfo) (word : ℕ → ℕ) (place : ℕ) → is_none (kind_at types word place) ≡ false → place ≢ 0
@@ -61,24 +61,24 @@ free_found true place (Some n) e full t = absurd (let there : if_there place tru
 free_found false place found e full t = absurd (let no : ⊥ = cc in no)
 
 pub count_ready : (heap : HeapParts) (number : ℕ) → AreReady heap (Count number) → (t : Struct) × (value_at heap.links.structs number ≡ Some t)
-count_ready heap number ready = struct_found (value_at heap.links.structs number) no_birth (passed (is_above (Count number)) Range _ ready.accepted).1
+count_ready heap number ready = struct_found (value_at heap.links.structs number) (passed (is_above (Count number)) Range _ ready.accepted).1
 
 pub inc_ready : (heap : HeapParts) (number : ℕ) → AreReady heap (Inc number) → (t : Struct) × (value_at heap.links.structs number ≡ Some t) × rises.CanRise t
-inc_ready heap number ready = rise_found (value_at heap.links.structs number) no_birth (passed (is_above (Inc number)) Range _ ready.accepted).1
+inc_ready heap number ready = rise_found (value_at heap.links.structs number) (passed (is_above (Inc number)) Range _ ready.accepted).1
 
 pub dec_ready : (heap : HeapParts) (number : ℕ) → AreReady heap (DecCommand number) → (t : Struct) × (value_at heap.links.structs number ≡ Some t) × rises.CanFall t
-dec_ready heap number ready = fall_found (value_at heap.links.structs number) no_birth (passed (is_above (DecCommand number)) Range _ ready.accepted).1
+dec_ready heap number ready = fall_found (value_at heap.links.structs number) (passed (is_above (DecCommand number)) Range _ ready.accepted).1
 
 pub from_obj_ready : (heap : HeapParts) (root : ℕ) → AreReady heap (FromObj root) → place_in heap root ≢ 0
 from_obj_ready heap root ready =
-    let one = one_slot heap.setup.settings.roots root (is_above (FromObj root)) false _ ready.accepted in
+    let one = one_slot heap.setup.settings.roots root (is_above (FromObj root)) _ ready.accepted in
     full_place heap.setup.types (word_in heap) (place_in heap root) (passed (is_none (kind_at heap.setup.types (word_in heap) (place_in heap root))) NilRoot _ one.1).0
 
 pub to_obj_ready : (heap : HeapParts) (to number : ℕ) → AreReady heap (ToObj to number)
     → (t : Struct) × (value_at heap.links.structs number ≡ Some t) × (to < length heap.slots)
 to_obj_ready heap to number ready =
-    let one = one_slot heap.setup.settings.roots to (is_above (ToObj to number)) false _ ready.accepted in
-    let found = struct_found (value_at heap.links.structs number) no_birth one.1 in (found.0, found.1, slot_in heap to ready.standing one.0)
+    let one = one_slot heap.setup.settings.roots to (is_above (ToObj to number)) _ ready.accepted in
+    let found = struct_found (value_at heap.links.structs number) one.1 in (found.0, found.1, slot_in heap to ready.standing one.0)
 
 -- A structure can be made for the object in a slot.
 pub record CanLink (heap : HeapParts) (p : Bool) (number root own : ℕ) : Type 0 where
@@ -100,7 +100,7 @@ pub make_link_ready : (heap : HeapParts) (p : Bool) (number root : ℕ) (light :
 make_link_ready heap p number root light own ready =
     let place : ℕ = place_in heap root in let found : Option Struct = value_at heap.links.structs number in let linked : Option ℕ = p_link_of heap.links.structs place in
     let range = make_link_in_range p number root light own (passed (is_above (MakeLink p number root light own)) Range _ ready.accepted).0 in
-    let one = one_slot heap.setup.settings.roots root (is_above (MakeLink p number root light own)) false _ ready.accepted in
+    let one = one_slot heap.setup.settings.roots root (is_above (MakeLink p number root light own)) _ ready.accepted in
     let two = passed (is_none (kind_at heap.setup.types (word_in heap) place)) NilRoot _ one.1 in
     let three = passed (not (is_absent (state_of found))) StructUsed _ two.1 in
     let four = passed (p && if_there place (is_some linked)) HasPLink _ three.1 in

@@ -1,16 +1,12 @@
 -- The stores that the heap of a test stands for, one behind each call, and what the heap can do then.
-use Rattle.std.proofs.Common.{◌≡◌, ℕ, zero, suc, false, List, [], ◌∷◌, refl, subst, arith}
+use Rattle.std.proofs.Common.{◌≡◌, List, [], ◌∷◌, refl, subst, arith}
 use Rattle.type_table.specs.declared.info.TypeInfo.{TypeInfo}
-use Rattle.type_table.specs.declared.info.Shape.TheVariants.{Fixed}
 use Rattle.type_table.specs.Table.{Table}
-use Rattle.object_model.specs.Setup.{Setup, defaults}
+use Rattle.object_model.specs.Setup.{defaults}
 use Rattle.text_model.specs.declared.command.Command.TheVariants.{NewFixed, Put, Get, Link, Load}
 use Rattle.text_model.specs.declared.line.Line.{Line}
 use Rattle.text_model.specs.Range.{is_above}
-use Rattle.store_model.specs.Birth.{with_birth}
-use Rattle.store_model.specs.Births.{fixed_request}
-use Rattle.store_model.specs.Slots.{held}
-use Rattle.store_model.specs.Steps.{Does, put_int, put_ref}
+use Rattle.store_model.specs.Steps.{Does}
 use Rattle.store_model.specs.Store.{Store, empty_store}
 use Rattle.heap_core.specs.Heap.{HeapSeen, StandsFor}
 use Rattle.heap_core.specs.Commands.{CanDo, IsFresh, Performs}

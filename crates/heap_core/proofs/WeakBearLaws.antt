@@ -1,5 +1,5 @@
 -- Births of weak objects by commands.
-use Rattle.std.proofs.Common.{◌≡◌, ℕ, ◌<◌, ◌≤◌, Bool, true, false, List, [], ◌∷◌, ◌++◌, Option, Some, refl, sym, ap, ◌∙◌, subst, arith}
+use Rattle.std.proofs.Common.{◌≡◌, ℕ, ◌<◌, ◌≤◌, Bool, true, false, List, [], ◌∷◌, ◌++◌, Option, Some, None, refl, sym, ap, ◌∙◌, subst, arith}
 use Rattle.std.proofs.Math.Nat.{le-min}
 use Rattle.type_table.specs.declared.info.Shape.{Shape}
 use Rattle.type_table.specs.declared.info.Shape.TheVariants.{Weak}
@@ -22,18 +22,33 @@ use Rattle.heap_parts.specs.StandsFor.{PartsStandFor}
 use Rattle.heap_parts.specs.WeakBirths.{HasWeakRoom, BearsWeakYoung, BearsWeakOld, BearsWeak}
 use Rattle.frame_laws.proofs.SlotLaws.{slot-pointer}
 use Rattle.heap_core.specs.Commands.{AreReady}
-use Rattle.heap_core.specs.Bearing.{PartsAppend, IsFitting}
+use Rattle.heap_core.specs.Bearing.{PartsAppend, HasRoomFor, IsFitting, MayBearWeak}
 use Rattle.heap_core.proofs.SlotCalls.{slot-holds}
 use Rattle.heap_core.proofs.BirthLaws.{CanBear, young_born, old_born, old_listed, room_ungapped}
-use Rattle.heap_core.proofs.BearLaws.{nursery_room, old_room, can_bear, birth_with_room}
-use Rattle.heap_core.proofs.WeakReady.{new_weak_ready}
+use Rattle.heap_core.proofs.BearLaws.{nursery_room, old_room, fits_in_room, can_bear, birth_with_room}
+use Rattle.heap_core.proofs.WeakReady.{new_weak_ready, no_type}
+
+-- a weak object that is not refused may be born where there is room
+pub weak_in_room : (heap : HeapParts) (root type_id target : ℕ) (found : Option TypeInfo) → value_at heap.setup.types type_id ≡ found → AreReady heap (NewWeak root type_id target)
+    → ((info : TypeInfo) → value_at heap.setup.types type_id ≡ Some info → HasRoomFor heap (words_in info.shape 0)) → MayBearWeak heap root type_id
+weak_in_room heap root type_id target None is ready room = absurd (no_type heap root type_id target ready is)
+weak_in_room heap root type_id target (Some info) is ready room =
+    let asks = new_weak_ready heap root type_id target info ready is in
+    record { info = info; weak = asks.weak; fits = fits_in_room heap root type_id 0 info asks.asked (room info is) }
+
+-- a type that was found is that of the weak object
+weak_found : (heap : HeapParts) (root type_id : ℕ) (info : TypeInfo) → MayBearWeak heap root type_id → value_at heap.setup.types type_id ≡ Some info
+    → (info.shape ≡ Weak) × IsFitting heap root type_id info 0
+weak_found heap root type_id info may found =
+    let both : Some may.info ≡ Some info = sym may.fits.known ∙ found in
+    let same : may.info ≡ info = cc in subst (λ (k : TypeInfo). (k.shape ≡ Weak) × IsFitting heap root type_id k 0) same (may.weak, may.fits)
 
 -- what the birth of the parts asks
-pub weak_room : (heap : HeapParts) (root type_id target : ℕ) (info : TypeInfo) → AreReady heap (NewWeak root type_id target) → value_at heap.setup.types type_id ≡ Some info
+pub weak_room : (heap : HeapParts) (root type_id : ℕ) (info : TypeInfo) → MayBearWeak heap root type_id → value_at heap.setup.types type_id ≡ Some info
     → HasWeakRoom heap root info
-weak_room heap root type_id target info ready found =
-    let may = new_weak_ready heap root type_id target info ready found in
-    record { weak = may.weak; young = nursery_room heap root type_id 0 info may.fits; old = old_room heap root type_id 0 info may.fits }
+weak_room heap root type_id info may found =
+    let known = weak_found heap root type_id info may found in
+    record { weak = known.0; young = nursery_room heap root type_id 0 info known.1; old = old_room heap root type_id 0 info known.1 }
 
 -- the object that is asked for, with what a slot holds as its target
 request-held : {heap : HeapParts} {store : Store} (s : PartsStandFor heap store) (root type_id target : ℕ) (shape : Shape) → shape ≡ Weak
@@ -88,16 +103,16 @@ weak_small heap root type_id info weak f =
     let least : 3 ≤ young_words heap.setup.settings = le-min (omega (arith, young)) (omega (arith, nursery)) in
     omega (arith, three, least)
 
-pub new_weak_does : (heap new : HeapParts) (root type_id target birth : ℕ) (is_old : Bool) (info : TypeInfo) (before after : List Line) → AreReady heap (NewWeak root type_id target)
+pub new_weak_does : (heap new : HeapParts) (root type_id target birth : ℕ) (is_old : Bool) (info : TypeInfo) (before after : List Line) → MayBearWeak heap root type_id
     → value_at heap.setup.types type_id ≡ Some info → type_id < 65536 → birth ≡ heap.next → birth ≤ 9223372036854775806
     → BearsWeak is_old heap new root type_id info (place_in heap target) → after ≡ before ++ Born birth is_old ∷ []
     → PartsAppend heap new (NewWeak root type_id target) before after
 unfolding Does
-new_weak_does heap new root type_id target birth is_old info before after ready found small is low bears appended =
-    let may = new_weak_ready heap root type_id target info ready found in
-    let can = can_bear heap root type_id 0 birth info true may.fits (ap is_weak_shape may.weak) small is low in
-    let born = is_born is_old heap new root type_id target info may.weak may.fits can bears in
-    let few = weak_small heap root type_id info may.weak may.fits in record {
+new_weak_does heap new root type_id target birth is_old info before after may found small is low bears appended =
+    let known = weak_found heap root type_id info may found in
+    let can = can_bear heap root type_id 0 birth info true known.1 (ap is_weak_shape known.0) small is low in
+    let born = is_born is_old heap new root type_id target info known.0 known.1 can bears in
+    let few = weak_small heap root type_id info known.0 known.1 in record {
       lines = Born heap.next is_old ∷ [];
       appended = appended ∙ ap (λ (k : ℕ). before ++ Born k is_old ∷ []) is;
       does = record {
@@ -105,7 +120,7 @@ new_weak_does heap new root type_id target birth is_old info before after ready 
         does = λ store s. let request : Request = weak_request store root type_id target in (
           with_birth is_old store info request,
           subst (λ (known : Option TypeInfo). BirthWithRoomOf known heap.setup store request (Born heap.next is_old ∷ []) (with_birth is_old store info request)) (sym found)
-              (birth_with_room heap store request info is_old may.fits s (λ more. absurd (let no : ⊥ = omega (arith, more, few) in no)) (λ l ungapped. born.small ungapped)),
+              (birth_with_room heap store request info is_old known.1 s (λ more. absurd (let no : ⊥ = omega (arith, more, few) in no)) (λ l ungapped. born.small ungapped)),
           born.stands store s,
         );
       };

@@ -1,5 +1,5 @@
 -- What is written into the words of a heap by the space alone is a command of the heap.
-use Rattle.std.proofs.Common.{◌≡◌, ℕ, ◌+◌, ◌<◌, ◌≤◌, [], sym, ap, ◌∙◌, subst, arith}
+use Rattle.std.proofs.Common.{◌≡◌, ℕ, ◌+◌, ◌<◌, [], sym, ap, ◌∙◌, subst, arith}
 use Rattle.heap_space.specs.Places.{with_word}
 use Rattle.heap_space.specs.Memory.{Memory}
 use Rattle.object_model.specs.ObjectWords.{layout_at}

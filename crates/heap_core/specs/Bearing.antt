@@ -1,5 +1,6 @@
 -- Births: what a call asks of the parts of a heap, and what it does.
 use Rattle.std.specs.Prelude.{◌≡◌, ℕ, ◌+◌, ◌<◌, ◌≤◌, Bool, true, false, List, [], ◌∷◌, ◌++◌, Some}
+use Rattle.type_table.specs.declared.info.Shape.TheVariants.{Weak}
 use Rattle.type_table.specs.declared.info.TypeInfo.{TypeInfo}
 use Rattle.type_table.specs.Table.{value_at}
 use Rattle.type_table.specs.Words.{words_in}
@@ -21,6 +22,24 @@ pub record PartsAppend (old new : HeapParts) (command : Command) (before after :
   pub appended : after ≡ before ++ lines
   pub does : PartsDo old new command lines
 
+-- An object of the type is asked for: the slot and the type are there.
+pub record IsAsked (heap : HeapParts) (root type_id : ℕ) (info : TypeInfo) (items : ℕ) : Type 0 where
+  pub standing : AreStanding heap
+  pub known : value_at heap.setup.types type_id ≡ Some info
+  pub root_in : root < heap.setup.settings.roots
+  pub items_few : items ≤ 16777216
+
+-- and one of a type that is not weak
+pub record MayAsk (heap : HeapParts) (root type_id items : ℕ) : Type 0 where
+  pub info : TypeInfo
+  pub plain : is_weak_shape info.shape ≡ false
+  pub asked : IsAsked heap root type_id info items
+
+-- an object of so many words can be born without a collection
+pub record HasRoomFor (heap : HeapParts) (words : ℕ) : Type 0 where
+  pub nursery : heap.unsettled + heap.fresh + words ≤ heap.setup.settings.nursery
+  pub limit : heap.unsettled + heap.old_words + words ≤ heap.setup.settings.limit
+
 -- an object of the type may be born: no collection is needed for it
 pub record IsFitting (heap : HeapParts) (root type_id : ℕ) (info : TypeInfo) (items : ℕ) : Type 0 where
   pub standing : AreStanding heap
@@ -35,6 +54,12 @@ pub record MayBear (heap : HeapParts) (root type_id items : ℕ) : Type 0 where
   pub info : TypeInfo
   pub plain : is_weak_shape info.shape ≡ false
   pub fits : IsFitting heap root type_id info items
+
+-- a weak object of a type that is there may be born
+pub record MayBearWeak (heap : HeapParts) (root type_id : ℕ) : Type 0 where
+  pub info : TypeInfo
+  pub weak : info.shape ≡ Weak
+  pub fits : IsFitting heap root type_id info 0
 
 -- An object of the type is born, and its line is appended: old where it has more words than an object of the nursery may have,
 -- and otherwise young, unless the nursery is gapped and has no room.

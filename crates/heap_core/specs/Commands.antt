@@ -11,11 +11,11 @@ use Rattle.store_model.specs.Store.{Store}
 use Rattle.store_model.specs.Steps.{Does}
 use Rattle.store_model.specs.Checks.{first_reason}
 use Rattle.store_model.specs.Look.{Look}
-use Rattle.store_model.specs.Unbuilt.{Room, program_checks}
+use Rattle.store_model.specs.Refusal.{command_checks}
 use Rattle.heap_core.specs.declared.fault.HeapFault.{HeapFault}
 use Rattle.heap_core.specs.declared.fault.HeapFault.TheVariants.{Spent, OutOfMemory}
 use Rattle.heap_parts.specs.Parts.{HeapParts, AreFresh}
-use Rattle.heap_parts.specs.Told.{told, room_told}
+use Rattle.heap_parts.specs.Told.{told}
 use Rattle.heap_parts.specs.StandsFor.{PartsStandFor}
 use Rattle.heap_core.specs.Heap.{HeapSeen, heap_of, StandsFor}
 
@@ -27,7 +27,7 @@ pub record AreStanding (parts : HeapParts) : Type 0 where
 -- they do, and the command is not refused there
 pub record AreReady (parts : HeapParts) (command : Command) : Type 0 where
   pub standing : AreStanding parts
-  pub accepted : first_reason (program_checks parts.setup (told parts) (room_told parts) command) ≡ None
+  pub accepted : first_reason (command_checks parts.setup (told parts) command) ≡ None
 
 -- something holds of the parts of a heap that was started and is not spent
 abbrev pub OfParts : Option HeapParts → (HeapParts → Type 0) → Type 0
@@ -82,14 +82,6 @@ told_if (Some parts) = told parts
 -- what a caller can be told of a heap
 abbrev pub told_by : HeapSeen → Look
 told_by heap = told_if heap.parts
-
-abbrev pub room_if : Option HeapParts → Room
-room_if None = record { unsettled = 0; fresh = 0; counted = 0 }
-room_if (Some parts) = room_told parts
-
--- the words that a caller can be told of
-abbrev pub room_by : HeapSeen → Room
-room_by heap = room_if heap.parts
 
 -- how a call fails that can only be out of memory, but on a spent heap
 abbrev pub fault_of : Bool → HeapFault

@@ -1,5 +1,6 @@
 //! Births.
 ghost use Rattle.std.specs.Prelude.{◌≡◌, ◌≤◌, ℕ, Some, IsTrue, IsFalse, OnOk, OnErr, IfErr, Err};
+ghost use Rattle.type_table.specs.declared.info.TypeInfo.{TypeInfo as Info};
 ghost use Rattle.type_table.specs.Table.{value_at};
 ghost use Rattle.type_table.specs.Words.{words_in};
 ghost use Rattle.nursery_gaps.specs.Nursery.{Fits};
@@ -7,8 +8,8 @@ ghost use Rattle.object_model.specs.Setup.{young_words};
 ghost use Rattle.text_model.specs.declared.command.Command.TheVariants.{NewFixed, NewArray};
 ghost use Rattle.heap_parts.specs.Births.{BearsYoung};
 ghost use Rattle.heap_core.specs.declared.fault.HeapFault.TheVariants.{Spent};
-ghost use Rattle.heap_core.specs.Bearing.{PartsAppend, IsFitting, MayBear, BearsKnown};
-ghost use Rattle.heap_core.specs.Commands.{AreReady, CanDo, PartsKeep, Performs, Keeps, fault_of};
+ghost use Rattle.heap_core.specs.Bearing.{PartsAppend, HasRoomFor, IsFitting, MayBear, BearsKnown};
+ghost use Rattle.heap_core.specs.Commands.{AreStanding, AreReady, CanDo, PartsKeep, Performs, Keeps, fault_of};
 
 use crate::collecting::{Collector, make_room};
 use crate::collections::lists_of;
@@ -43,7 +44,7 @@ impl Heap {
         match &mut self.state {
             State::Started(parts) => {
                 let collector = lists_of(parts, &mut self.collector);
-                let ended = new_object(parts, collector, root, type_id, 0, out);
+                let ended = bear_fixed(parts, collector, root, type_id, out);
                 self.end_birth(ended)
             }
             State::Closed | State::Spent => Err(HeapFault::Spent),
@@ -68,7 +69,7 @@ impl Heap {
         match &mut self.state {
             State::Started(parts) => {
                 let collector = lists_of(parts, &mut self.collector);
-                let ended = new_object(parts, collector, root, type_id, len, out);
+                let ended = bear_array(parts, collector, root, type_id, len, out);
                 self.end_birth(ended)
             }
             State::Closed | State::Spent => Err(HeapFault::Spent),
@@ -76,15 +77,47 @@ impl Heap {
     }
 }
 
-/// Makes room for an object of a type, which is then born for a slot. The lines of both are appended.
-fn new_object(
+/// Room is made for an object of a fixed type, which is then born for a slot.
+fn bear_fixed(
+    parts: &mut Parts,
+    collector: &mut Collector,
+    root: u32,
+    type_id: u16,
+    out: &mut Vec<Line>,
+) -> Result<(), HeapFault>
+    requires { AreReady parts.old (NewFixed root type_id) }
+    ensures { EndsBirth (NewFixed root type_id) parts.old parts.new out.old.items out.new.items result }
+{
+    bear_in_room(parts, collector, root, type_id, 0, out)
+}
+
+/// Room is made for an array, which is then born for a slot.
+fn bear_array(
+    parts: &mut Parts,
+    collector: &mut Collector,
+    root: u32,
+    type_id: u16,
+    len: u64,
+    out: &mut Vec<Line>,
+) -> Result<(), HeapFault>
+    requires { AreReady parts.old (NewArray root type_id len) }
+    ensures { EndsBirth (NewArray root type_id len) parts.old parts.new out.old.items out.new.items result }
+{
+    bear_in_room(parts, collector, root, type_id, len, out)
+}
+
+/// Room is made for an object of a type, which is then born for a slot. The lines of both are appended.
+fn bear_in_room(
     parts: &mut Parts,
     collector: &mut Collector,
     root: u32,
     type_id: u16,
     items: u64,
     out: &mut Vec<Line>,
-) -> Result<(), HeapFault> {
+) -> Result<(), HeapFault>
+    requires { MayAsk parts.old root type_id items }
+    ensures { BearsInRoom root type_id items parts.old parts.new out.old.items out.new.items result }
+{
     let Some(info) = parts.type_info(type_id) else {
         return Err(HeapFault::OutOfMemory);
     };

@@ -1,12 +1,11 @@
 //! What a heap tells, by which a caller knows beforehand what it refuses.
-ghost use Rattle.std.specs.Prelude.{◌≡◌, ◌≤◌, IsSome, IsSomeAnd, is_some};
+ghost use Rattle.std.specs.Prelude.{◌≡◌, IsSome, IsSomeAnd, is_some};
 ghost use Rattle.store_model.specs.Store.{Store};
 ghost use Rattle.store_model.specs.Slots.{object_in};
 ghost use Rattle.store_model.specs.Look.{look};
-ghost use Rattle.store_model.specs.Unbuilt.{room_of};
 ghost use Rattle.heap_parts.specs.Told.{items_of};
 ghost use Rattle.heap_core.specs.Heap.{StandsFor};
-ghost use Rattle.heap_core.specs.Commands.{OfParts, IsStanding, type_found, told_by, room_by};
+ghost use Rattle.heap_core.specs.Commands.{IsStanding, type_found, told_by};
 
 use crate::heap::{Heap, State};
 use object_model::{Kind, StructState};
@@ -20,43 +19,6 @@ impl Heap {
         match &self.state {
             State::Started(parts) => parts.type_info(id),
             State::Closed | State::Spent => None,
-        }
-    }
-
-    /// The words of all objects and husks.
-    pub fn counted_words(&self) -> u64
-        requires { IsStanding self.now }
-        ensures value { result ≡ (room_by self.now).counted }
-        ensures room { (store : Store) → StandsFor self.now store → room_of store ≡ room_by self.now }
-        ensures limit { OfParts self.now.parts (λ parts. result ≤ parts.setup.settings.limit) }
-    {
-        match &self.state {
-            State::Started(parts) => parts.counted_words(),
-            State::Closed | State::Spent => 0,
-        }
-    }
-
-    /// The words of the objects in the nursery.
-    pub fn unsettled_words(&self) -> u64
-        requires { IsStanding self.now }
-        ensures value { result ≡ (room_by self.now).unsettled }
-        ensures limit { OfParts self.now.parts (λ parts. result ≤ parts.setup.settings.limit) }
-    {
-        match &self.state {
-            State::Started(parts) => parts.unsettled_words(),
-            State::Closed | State::Spent => 0,
-        }
-    }
-
-    /// The words of the objects that were born outside the nursery since the last minor collection.
-    pub fn fresh_words(&self) -> u64
-        requires { IsStanding self.now }
-        ensures value { result ≡ (room_by self.now).fresh }
-        ensures limit { OfParts self.now.parts (λ parts. result ≤ parts.setup.settings.limit) }
-    {
-        match &self.state {
-            State::Started(parts) => parts.fresh_words(),
-            State::Closed | State::Spent => 0,
         }
     }
 

@@ -3,7 +3,7 @@ ghost use Rattle.std.specs.Prelude.{◌≡◌, [], ◌∷◌, IsTrue, IfOk, IfEr
 ghost use Rattle.text_model.specs.declared.command.Command.TheVariants.{NewWeak, Deref};
 ghost use Rattle.text_model.specs.declared.line.Line.TheVariants.{Derefed};
 ghost use Rattle.heap_core.specs.declared.fault.HeapFault.TheVariants.{Spent};
-ghost use Rattle.heap_core.specs.Bearing.{PartsAppend};
+ghost use Rattle.heap_core.specs.Bearing.{PartsAppend, MayBearWeak};
 ghost use Rattle.heap_core.specs.Commands.{AreReady, CanDo, PartsDo, PartsKeep, Performs, Keeps, fault_of};
 
 use crate::births::LAST_BIRTH;
@@ -37,7 +37,7 @@ impl Heap {
         match &mut self.state {
             State::Started(parts) => {
                 let collector = lists_of(parts, &mut self.collector);
-                let ended = new_weak_object(parts, collector, root, type_id, target, out);
+                let ended = bear_weak(parts, collector, root, type_id, target, out);
                 self.end_birth(ended)
             }
             State::Closed | State::Spent => Err(HeapFault::Spent),
@@ -60,33 +60,36 @@ impl Heap {
     }
 }
 
-/// Makes room for a weak object, which is then born for a slot. The lines of both are appended.
-fn new_weak_object(
+/// Room is made for a weak object, which is then born for a slot. The lines of both are appended.
+fn bear_weak(
     parts: &mut Parts,
     collector: &mut Collector,
     root: u32,
     type_id: u16,
     target: u32,
     out: &mut Vec<Line>,
-) -> Result<(), HeapFault> {
+) -> Result<(), HeapFault>
+    requires { AreReady parts.old (NewWeak root type_id target) }
+    ensures { EndsBirth (NewWeak root type_id target) parts.old parts.new out.old.items out.new.items result }
+{
     let Some(info) = parts.type_info(type_id) else {
         return Err(HeapFault::OutOfMemory);
     };
     make_room(parts, collector, words(info, 0), out)?;
-    bear_weak(parts, root, type_id, target, out)?;
+    bear_weak_in_room(parts, root, type_id, target, out)?;
     Ok(())
 }
 
 /// A weak object is born for a slot, with what another slot holds as its target, and its line is appended. The error is
 /// out of memory, also where the next birth would reach 2^63.
-fn bear_weak(
+fn bear_weak_in_room(
     parts: &mut Parts,
     root: u32,
     type_id: u16,
     target: u32,
     out: &mut Vec<Line>,
 ) -> Result<(), AllocError>
-    requires { AreReady parts.old (NewWeak root type_id target) }
+    requires { MayBearWeak parts.old root type_id }
     ensures does { OnOk result (PartsAppend parts.old parts.new (NewWeak root type_id target) out.old.items out.new.items) }
     ensures err { OnErr result (PartsKeep parts.old parts.new) }
     ensures err_out { OnErr result (out.new.items ≡ out.old.items) }

@@ -17,19 +17,18 @@ use Rattle.store_model.specs.Steps.{Does}
 use Rattle.store_model.specs.Progress.{Progress, with_setting, after_setting, after_type, after_command}
 use Rattle.store_model.specs.Checks.{first_reason}
 use Rattle.store_model.specs.Look.{Look}
-use Rattle.store_model.specs.Refusal.{refusal_seen}
-use Rattle.store_model.specs.Unbuilt.{Room, program_checks}
+use Rattle.store_model.specs.Refusal.{refusal_seen, command_checks}
 use Rattle.store_model.specs.Transcript.{ItemDoes}
 use Rattle.heap_parts.specs.Parts.{HeapParts}
-use Rattle.heap_parts.specs.Told.{told, room_told}
+use Rattle.heap_parts.specs.Told.{told}
 use Rattle.heap_core.specs.Heap.{HeapSeen, heap_of, StandsFor}
-use Rattle.heap_core.specs.Commands.{OfParts, AreReady, CanDo, IsFresh, Performs, Keeps, setup_in, told_by, room_by}
-use Rattle.heap_core.proofs.LookLaws.{look_told, room_is}
+use Rattle.heap_core.specs.Commands.{OfParts, AreReady, CanDo, IsFresh, Performs, Keeps, setup_in, told_by}
+use Rattle.heap_core.proofs.LookLaws.{look_told}
 use Rattle.session_core.specs.declared.session.RunFault.{RunFault}
 use Rattle.session_core.specs.declared.session.RunFault.TheVariants.{OutOfMemory}
 use Rattle.session_core.specs.Blocks.{NoBlock, LeavesStore, LeavesOff, makes_blocks}
 use Rattle.session_core.specs.Seen.{SessionSeen}
-use Rattle.session_core.specs.Standing.{IsStarted, HasHeap, HasStore, StandsAt, IsPlaced, DoesItem, KeepsFront, Answers, Sets, Adds, Begins, types_in, table_of, seen_if, room_seen, setup_of, refusal_of}
+use Rattle.session_core.specs.Standing.{IsStarted, HasHeap, HasStore, StandsAt, IsPlaced, DoesItem, KeepsFront, Answers, Sets, Adds, Begins, types_in, table_of, seen_if, setup_of, refusal_of}
 use Rattle.session_core.proofs.Passing.{passed}
 use Rattle.session_core.proofs.Looks.{refusal_is, look-empty}
 
@@ -146,7 +145,6 @@ begins_again session new heap is same placed = record {
   has_heap = heap_started session heap is placed;
   table = ap (λ (t : Option (Table TypeInfo)). types_in t heap) (sym is);
   told = ap (λ (t : Option (Table TypeInfo)). seen_if t heap) (sym is);
-  room = ap (λ (t : Option (Table TypeInfo)). room_seen t heap) (sym is);
   stores = λ store stands. subst (λ (t : Option (Table TypeInfo)). HasStore t session.settings heap store) is stands;
 }
 
@@ -166,7 +164,6 @@ begins_first session new heap started types is none settings names fresh empty =
           ∙ (ap (λ (p : HeapParts). p.setup.types) fresh.fresh.are ∙ ap (λ (t : Option (Table TypeInfo)). types_in t heap) (sym is));
       told = ap told_by fresh.is ∙ (sym (look_told fresh.parts (empty_store session.settings) stands)
           ∙ (look-empty session.settings ∙ ap (λ (t : Option (Table TypeInfo)). seen_if t heap) (sym is)));
-      room = ap room_by fresh.is ∙ (sym (room_is fresh.parts (empty_store session.settings) stands) ∙ ap (λ (t : Option (Table TypeInfo)). room_seen t heap) (sym is));
       stores = λ store stands. subst (StandsFor started) (sym (subst (λ (t : Option (Table TypeInfo)). HasStore t session.settings heap store) is stands)) empty;
     }
 
@@ -178,23 +175,26 @@ setup_same session mid heap started b =
     let same : b.has_heap.parts.setup ≡ setup_of session heap = λ i. record { settings = b.has_heap.settings_are i; types = types i } in
     same
 
+-- a command that is not refused passes its checks
+not_refused : (session : SessionSeen) (heap : HeapSeen) (command : Command) → refusal_of session heap (CommandItem command) ≡ None
+    → first_reason (command_checks (setup_of session heap) (seen_if session.types heap) command) ≡ None
+unfolding refusal_seen
+not_refused session heap command accepted = accepted
+
 -- what is not refused by the session can be done by the heap that it started
 pub can_do : (session mid : SessionSeen) (heap started : HeapSeen) (command : Command)
     → refusal_of session heap (CommandItem command) ≡ None → IsPlaced session heap → Begins session mid heap started → CanDo started command
 can_do session mid heap started command accepted placed b =
     let parts = b.has_heap.parts in
-    let setup = setup_of session heap in
     let seen = seen_if session.types heap in
     let told_is : told parts ≡ seen = ap told_by (sym b.has_heap.is) ∙ b.told in
-    let room_same : room_told parts ≡ room_seen session.types heap = ap room_by (sym b.has_heap.is) ∙ b.room in
     let ready : AreReady parts command = record {
       standing = record {
         store = placed.at.store;
         stands = subst (λ (h : HeapSeen). StandsFor h placed.at.store) b.has_heap.is (b.stores placed.at.store placed.stands.store);
       };
-      accepted = ap (λ (s : Setup). first_reason (program_checks s (told parts) (room_told parts) command)) (setup_same session mid heap started b)
-          ∙ (ap (λ (l : Look). first_reason (program_checks setup l (room_told parts) command)) told_is
-          ∙ (ap (λ (r : Room). first_reason (program_checks setup seen r command)) room_same ∙ accepted));
+      accepted = ap (λ (s : Setup). first_reason (command_checks s (told parts) command)) (setup_same session mid heap started b)
+          ∙ (ap (λ (l : Look). first_reason (command_checks (setup_of session heap) l command)) told_is ∙ not_refused session heap command accepted);
     } in
     subst (λ (h : HeapSeen). CanDo h command) (sym b.has_heap.is) ready
 

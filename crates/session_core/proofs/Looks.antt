@@ -4,7 +4,6 @@ use Rattle.std.specs.Prelude.{is_none, false, option_map, option_and_then}
 use Rattle.type_table.specs.declared.info.TypeInfo.{TypeInfo}
 use Rattle.type_table.specs.Table.{Table}
 use Rattle.text_model.specs.declared.item.Item.{Item}
-use Rattle.text_model.specs.declared.item.Item.TheVariants.{Blank, Setting, TypeDef, Command as CommandItem}
 use Rattle.object_model.specs.declared.settings.Settings.{Settings}
 use Rattle.object_model.specs.declared.structure.StructState.TheVariants.{Absent}
 use Rattle.object_model.specs.Setup.{Setup}
@@ -13,15 +12,13 @@ use Rattle.object_model.specs.Shapes.{kind_of}
 use Rattle.store_model.specs.Store.{Store, empty_store}
 use Rattle.store_model.specs.Slots.{held, kind_in}
 use Rattle.store_model.specs.Look.{Look, look, is_held_in}
-use Rattle.store_model.specs.Checks.{first_reason}
 use Rattle.store_model.specs.Progress.{Progress}
-use Rattle.store_model.specs.Refusal.{refusal_seen}
-use Rattle.store_model.specs.Unbuilt.{Room, room_of, program_checks, program_refusal}
+use Rattle.store_model.specs.Refusal.{refusal, refusal_seen}
 use Rattle.heap_core.specs.Heap.{HeapSeen, StandsFor}
-use Rattle.heap_core.specs.Commands.{nothing_told, told_by, room_by}
-use Rattle.heap_core.proofs.LookLaws.{look_told, room_is}
+use Rattle.heap_core.specs.Commands.{nothing_told, told_by}
+use Rattle.heap_core.proofs.LookLaws.{look_told}
 use Rattle.session_core.specs.Seen.{SessionSeen}
-use Rattle.session_core.specs.Standing.{HasHeap, HasStore, StandsAt, seen_if, room_seen, setup_of, refusal_of}
+use Rattle.session_core.specs.Standing.{HasHeap, HasStore, StandsAt, seen_if, setup_of, refusal_of}
 
 held-none : (roots root : ℕ) → held (replicate roots None) root ≡ None
 held-none zero root = refl
@@ -49,30 +46,12 @@ look-seen : (types : Option (Table TypeInfo)) (settings : Settings) (heap : Heap
 look-seen (Some types) settings heap store has is = ap look is ∙ look-empty settings
 look-seen None settings heap store has stands = look_told has.parts store (subst (λ (h : HeapSeen). StandsFor h store) has.is stands) ∙ ap told_by (sym has.is)
 
-room-seen : (types : Option (Table TypeInfo)) (settings : Settings) (heap : HeapSeen) (store : Store) → HasHeap types settings heap
-    → HasStore types settings heap store → room_of store ≡ room_seen types heap
-room-seen (Some types) settings heap store has is = ap room_of is
-room-seen None settings heap store has stands = room_is has.parts store (subst (λ (h : HeapSeen). StandsFor h store) has.is stands) ∙ ap room_by (sym has.is)
-
-refusal_seen-is : (session : SessionSeen) (heap : HeapSeen) (at : Progress) (item : Item) → StandsAt session heap at
-    → refusal_seen at.setup at.set_names at.late (look at.store) item ≡ refusal_seen (setup_of session heap) session.names (is_none session.types) (seen_if session.types heap) item
-refusal_seen-is session heap at item stands =
+-- why an item is refused, by the store and by what session and heap tell
+pub refusal_is : (session : SessionSeen) (heap : HeapSeen) (at : Progress) (item : Item) → StandsAt session heap at
+    → refusal at item ≡ refusal_of session heap item
+refusal_is session heap at item stands =
     ap (λ (setup : Setup). refusal_seen setup at.set_names at.late (look at.store) item) stands.setup
     ∙ (ap (λ (names : List ℕ). refusal_seen (setup_of session heap) names at.late (look at.store) item) stands.names
     ∙ (ap (λ (late : Bool). refusal_seen (setup_of session heap) session.names late (look at.store) item) stands.late
     ∙ ap (λ (seen : Look). refusal_seen (setup_of session heap) session.names (is_none session.types) seen item)
     (look-seen session.types session.settings heap at.store stands.has_heap stands.store)))
-
--- why the program refuses an item, by the store and by what session and heap tell
-pub refusal_is : (session : SessionSeen) (heap : HeapSeen) (at : Progress) (item : Item) → StandsAt session heap at
-    → program_refusal at item ≡ refusal_of session heap item
-unfolding program_refusal
-refusal_is session heap at Blank stands = refusal_seen-is session heap at Blank stands
-refusal_is session heap at (Setting name value) stands = refusal_seen-is session heap at (Setting name value) stands
-refusal_is session heap at (TypeDef id info) stands = refusal_seen-is session heap at (TypeDef id info) stands
-refusal_is session heap at (CommandItem command) stands =
-    ap (λ (setup : Setup). first_reason (program_checks setup (look at.store) (room_of at.store) command)) stands.setup
-    ∙ (ap (λ (seen : Look). first_reason (program_checks (setup_of session heap) seen (room_of at.store) command))
-    (look-seen session.types session.settings heap at.store stands.has_heap stands.store)
-    ∙ ap (λ (room : Room). first_reason (program_checks (setup_of session heap) (seen_if session.types heap) room command))
-    (room-seen session.types session.settings heap at.store stands.has_heap stands.store))

@@ -11,15 +11,13 @@ use Rattle.object_model.specs.Setup.{Setup}
 use Rattle.store_model.specs.Store.{Store, empty_store}
 use Rattle.store_model.specs.Progress.{Progress, with_setting}
 use Rattle.store_model.specs.Look.{Look}
-use Rattle.store_model.specs.Checks.{first_reason}
-use Rattle.store_model.specs.Refusal.{refusal_seen}
-use Rattle.store_model.specs.Unbuilt.{Room, program_checks, program_refusal}
+use Rattle.store_model.specs.Refusal.{refusal, refusal_seen}
 use Rattle.store_model.specs.Transcript.{Group, ItemDoes, ItemExceeds, group_lines}
 use Rattle.heap_parts.specs.Parts.{HeapParts}
 use Rattle.heap_core.specs.declared.fault.HeapFault.{HeapFault}
 use Rattle.heap_core.specs.declared.fault.HeapFault.TheVariants.{Spent, OutOfMemory as NoMemory, HeapLimit as OverLimit}
 use Rattle.heap_core.specs.Heap.{HeapSeen, closed_heap, heap_of, StandsFor}
-use Rattle.heap_core.specs.Commands.{nothing_told, told_by, room_if, room_by, setup_in}
+use Rattle.heap_core.specs.Commands.{nothing_told, told_by, setup_in}
 use Rattle.session_core.specs.declared.session.RunFault.{RunFault}
 use Rattle.session_core.specs.declared.session.RunFault.TheVariants.{Malformed, HeapLimit, OutOfMemory}
 use Rattle.session_core.specs.Blocks.{LeavesOff}
@@ -82,15 +80,8 @@ abbrev pub seen_if : Option (Table TypeInfo) → HeapSeen → Look
 seen_if (Some types) heap = nothing_told
 seen_if None heap = told_by heap
 
--- the words that tell whether a birth needs a collection
-abbrev pub room_seen : Option (Table TypeInfo) → HeapSeen → Room
-room_seen (Some types) heap = room_if None
-room_seen None heap = room_by heap
-
--- why the program refuses an item, by what session and heap have
+-- why an item is refused, by what session and heap have
 abbrev pub refusal_of : SessionSeen → HeapSeen → Item → Option Reason
-refusal_of session heap (CommandItem command) =
-    first_reason (program_checks (setup_of session heap) (seen_if session.types heap) (room_seen session.types heap) command)
 refusal_of session heap item =
     refusal_seen (setup_of session heap) session.names (is_none session.types) (seen_if session.types heap) item
 
@@ -114,14 +105,13 @@ pub record Begins (old new : SessionSeen) (heap started : HeapSeen) : Type 0 whe
   pub has_heap : IsStarted old.settings started
   pub table : table_of started.parts ≡ types_in old.types heap
   pub told : told_by started ≡ seen_if old.types heap
-  pub room : room_by started ≡ room_seen old.types heap
   pub stores : (store : Store) → HasStore old.types old.settings heap store → StandsFor started store
 
 -- The item was done: from `at`, it added groups with these lines.
 pub record DoesItem (session : SessionSeen) (heap : HeapSeen) (at : Progress) (item : Item) (before after : List Line) : Type 0 where
   pub groups : List Group
   pub next : Progress
-  pub accepted : program_refusal at item ≡ None
+  pub accepted : refusal at item ≡ None
   pub does : ItemDoes at item groups next
   pub lines : after ≡ before ++ group_lines groups
   pub stands : StandsAt session heap next
@@ -130,7 +120,7 @@ pub record DoesItem (session : SessionSeen) (heap : HeapSeen) (at : Progress) (i
 pub record ExceedsItem (session : SessionSeen) (heap : HeapSeen) (at : Progress) (item : Item) (counted request limit : ℕ) (before after : List Line) : Type 0 where
   pub groups : List Group
   pub next : Progress
-  pub accepted : program_refusal at item ≡ None
+  pub accepted : refusal at item ≡ None
   pub exceeds : ItemExceeds at item counted request limit groups next
   pub lines : after ≡ before ++ group_lines groups
   pub stands : StandsAt session heap next
@@ -155,7 +145,7 @@ KeepsFront before after = (rest : List Line) × (after ≡ before ++ rest)
 abbrev pub Answers : Progress → Item → SessionSeen → HeapSeen → List Line → List Line → Result (Unit {0}) RunFault → Type 0
 Answers at item session heap before after (Ok done) = DoesItem session heap at item before after
 Answers at item session heap before after (Err (Malformed reason)) =
-    (program_refusal at item ≡ Some reason) × (after ≡ before) × StandsAt session heap at
+    (refusal at item ≡ Some reason) × (after ≡ before) × StandsAt session heap at
 Answers at item session heap before after (Err (HeapLimit counted request limit)) =
     ExceedsItem session heap at item counted request limit before after
 Answers at item session heap before after (Err OutOfMemory) =

@@ -2,16 +2,13 @@
 ghost use Rattle.std.specs.Prelude.{◌≡◌, ◌≤◌, ◌+◌, [], ◌∷◌, ◌++◌, Some, is_none, length, false};
 ghost use Rattle.type_table.specs.Table.{value_at};
 ghost use Rattle.text_model.specs.Range.{is_above};
-ghost use Rattle.text_model.specs.declared.item.Reason.TheVariants.{NotBuilt as Unbuilt};
 ghost use Rattle.object_model.specs.Setup.{type_at};
 ghost use Rattle.object_model.specs.Sets.{is_in};
 ghost use Rattle.object_model.specs.Shapes.{is_fixed_shape, is_array_shape, is_weak_shape};
-ghost use Rattle.store_model.specs.Births.{words_asked, words_of_type};
 ghost use Rattle.store_model.specs.Checks.{first_reason, setting_checks, type_checks, slots_checks, found_checks, born_checks, int_checks, ref_checks, copy_checks};
 ghost use Rattle.store_model.specs.StructChecks.{weak_checks, unpin_checks, queue_checks, register_checks, link_checks, struct_checks};
-ghost use Rattle.store_model.specs.Refusal.{checks_in_range};
-ghost use Rattle.store_model.specs.Unbuilt.{is_unbuilt, needs_collection, program_checks};
-ghost use Rattle.session_core.specs.Standing.{IsPlaced, setup_of, seen_if, room_seen, types_in, refusal_of};
+ghost use Rattle.store_model.specs.Refusal.{checks_in_range, command_checks};
+ghost use Rattle.session_core.specs.Standing.{IsPlaced, setup_of, seen_if, types_in, refusal_of};
 
 use crate::checks::{
     copy_refusal, dec_refusal, found_refusal, inc_refusal, int_refusal, link_refusal,
@@ -21,7 +18,7 @@ use crate::session::Session;
 use crate::settings::is_outside;
 use heap_core::Heap;
 use store_model::{Command, Item, Reason, Shape, TypeInfo};
-use type_table::{MAX_TYPES, words};
+use type_table::MAX_TYPES;
 
 impl Session {
     /// The first reason for which the program refuses an item, if it does.
@@ -70,10 +67,10 @@ impl Session {
         None
     }
 
-    /// The first reason for which the program refuses a command, if it does.
+    /// The first reason for which a command is refused, if it is.
     fn command_refusal(&self, heap: &Heap, command: &Command) -> Option<Reason>
         requires { IsPlaced self.now heap.now }
-        ensures { result ≡ first_reason (program_checks (setup_of self.now heap.now) (seen_if self.now.types heap.now) (room_seen self.now.types heap.now) command.now) }
+        ensures { result ≡ first_reason (command_checks (setup_of self.now heap.now) (seen_if self.now.types heap.now) command.now) }
     {
         if command.is_above() {
             return Some(Reason::Range);
@@ -81,21 +78,16 @@ impl Session {
         self.refusal_in_range(heap, command)
     }
 
-    /// The same for a command that is built, and none of whose numbers is out of range.
+    /// The same for a command none of whose numbers is out of range.
     fn refusal_in_range(&self, heap: &Heap, command: &Command) -> Option<Reason>
         requires placed { IsPlaced self.now heap.now }
         requires in_range { is_above command.now ≡ false }
-        requires built { is_unbuilt command.now ≡ false }
-        ensures { let setup = setup_of self.now heap.now in
-            result ≡ first_reason (checks_in_range setup (seen_if self.now.types heap.now) command.now
-            ++ (needs_collection setup (room_seen self.now.types heap.now) (words_asked setup command.now), Unbuilt) ∷ []) }
+        ensures { result ≡ first_reason (checks_in_range (setup_of self.now heap.now) (seen_if self.now.types heap.now) command.now) }
     {
         let roots = self.settings.roots;
         match *command {
             Command::NewFixed { root, type_id } => self.fixed_refusal(heap, root, type_id),
-            Command::NewArray { root, type_id, len } => {
-                self.array_refusal(heap, root, type_id, len)
-            }
+            Command::NewArray { root, type_id, .. } => self.array_refusal(heap, root, type_id),
             Command::NewWeak {
                 root,
                 type_id,
@@ -291,9 +283,8 @@ impl Session {
     /// Of the birth of an object of a fixed type.
     fn fixed_refusal(&self, heap: &Heap, root: u32, type_id: u16) -> Option<Reason>
         requires { IsPlaced self.now heap.now }
-        ensures { let setup = setup_of self.now heap.now in
-            result ≡ first_reason (slots_checks self.now.settings.roots (root ∷ []) ++ born_checks (type_at setup type_id) is_fixed_shape
-            ++ (needs_collection setup (room_seen self.now.types heap.now) (words_of_type (type_at setup type_id) 0), Unbuilt) ∷ []) }
+        ensures { result ≡ first_reason (slots_checks self.now.settings.roots (root ∷ [])
+            ++ born_checks (type_at (setup_of self.now heap.now) type_id) is_fixed_shape) }
     {
         if u64::from(root) >= self.settings.roots {
             return Some(Reason::NoRoot);
@@ -308,12 +299,10 @@ impl Session {
     }
 
     /// Of the birth of an array.
-    fn array_refusal(&self, heap: &Heap, root: u32, type_id: u16, len: u64) -> Option<Reason>
-        requires placed { IsPlaced self.now heap.now }
-        requires len { len ≤ 16777216 }
-        ensures { let setup = setup_of self.now heap.now in
-            result ≡ first_reason (slots_checks self.now.settings.roots (root ∷ []) ++ born_checks (type_at setup type_id) is_array_shape
-            ++ (needs_collection setup (room_seen self.now.types heap.now) (words_of_type (type_at setup type_id) len), Unbuilt) ∷ []) }
+    fn array_refusal(&self, heap: &Heap, root: u32, type_id: u16) -> Option<Reason>
+        requires { IsPlaced self.now heap.now }
+        ensures { result ≡ first_reason (slots_checks self.now.settings.roots (root ∷ [])
+            ++ born_checks (type_at (setup_of self.now heap.now) type_id) is_array_shape) }
     {
         if u64::from(root) >= self.settings.roots {
             return Some(Reason::NoRoot);
@@ -330,10 +319,9 @@ impl Session {
     /// Of the birth of a weak object for what a slot holds.
     fn new_weak_refusal(&self, heap: &Heap, root: u32, type_id: u16, target: u32) -> Option<Reason>
         requires { IsPlaced self.now heap.now }
-        ensures { let setup = setup_of self.now heap.now in
-            result ≡ first_reason (slots_checks self.now.settings.roots (root ∷ target ∷ [])
-            ++ (found_checks ((seen_if self.now.types heap.now).kind target) ++ born_checks (type_at setup type_id) is_weak_shape)
-            ++ (needs_collection setup (room_seen self.now.types heap.now) (words_of_type (type_at setup type_id) 0), Unbuilt) ∷ []) }
+        ensures { result ≡ first_reason (slots_checks self.now.settings.roots (root ∷ target ∷ [])
+            ++ (found_checks ((seen_if self.now.types heap.now).kind target)
+            ++ born_checks (type_at (setup_of self.now heap.now) type_id) is_weak_shape)) }
     {
         if let Some(reason) = slots_refusal(self.settings.roots, root, target) {
             return Some(reason);

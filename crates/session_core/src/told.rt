@@ -1,7 +1,7 @@
 //! What a session's heap tells: before the first command, nothing.
-ghost use Rattle.std.specs.Prelude.{◌≡◌, ◌≤◌};
+ghost use Rattle.std.specs.Prelude.{◌≡◌};
 ghost use Rattle.object_model.specs.Setup.{type_at};
-ghost use Rattle.session_core.specs.Standing.{IsPlaced, setup_of, seen_if, room_seen};
+ghost use Rattle.session_core.specs.Standing.{IsPlaced, setup_of, seen_if};
 
 use crate::session::Session;
 use heap_core::Heap;
@@ -15,42 +15,6 @@ impl Session {
         match &self.types {
             None => heap.type_info(id),
             Some(types) => types.get(id),
-        }
-    }
-
-    /// The words of the objects in the nursery.
-    pub(crate) fn unsettled_words(&self, heap: &Heap) -> u64
-        requires { IsPlaced self.now heap.now }
-        ensures value { result ≡ (room_seen self.now.types heap.now).unsettled }
-        ensures limit { result ≤ self.now.settings.limit }
-    {
-        match &self.types {
-            None => heap.unsettled_words(),
-            Some(_) => 0,
-        }
-    }
-
-    /// The words of the objects that were born outside the nursery.
-    pub(crate) fn fresh_words(&self, heap: &Heap) -> u64
-        requires { IsPlaced self.now heap.now }
-        ensures value { result ≡ (room_seen self.now.types heap.now).fresh }
-        ensures limit { result ≤ self.now.settings.limit }
-    {
-        match &self.types {
-            None => heap.fresh_words(),
-            Some(_) => 0,
-        }
-    }
-
-    /// The words of all objects and husks.
-    pub(crate) fn counted_words(&self, heap: &Heap) -> u64
-        requires { IsPlaced self.now heap.now }
-        ensures value { result ≡ (room_seen self.now.types heap.now).counted }
-        ensures limit { result ≤ self.now.settings.limit }
-    {
-        match &self.types {
-            None => heap.counted_words(),
-            Some(_) => 0,
         }
     }
 

@@ -1,11 +1,7 @@
 use Rattle.std.proofs.Common.{ap, sym, ◌∙◌, arith}
 use Rattle.text_model.specs.Range.{is_above}
-use Rattle.session_core.proofs.Passing.{len_in_range, copy_in_range}
+use Rattle.session_core.proofs.Passing.{copy_in_range}
 use Rattle.session_core.proofs.session.Session.refusal_in_range.Goals as goal
-
-pub array_refusal-requires-clause-len : goal.array_refusal-requires-clause-len
-array_refusal-requires-clause-len c =
-    len_in_range c.in-NewArray.root c.in-NewArray.type_id c.in-NewArray.len (ap is_above (sym c.in-NewArray.is) ∙ c.requires.in_range)
 
 pub overflow_add-item : goal.overflow_add-item
 overflow_add-item c =
