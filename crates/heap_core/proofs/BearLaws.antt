@@ -15,7 +15,7 @@ use Rattle.text_model.specs.declared.command.Command.TheVariants.{NewFixed, NewA
 use Rattle.text_model.specs.declared.item.Reason.TheVariants.{WrongShape, Range}
 use Rattle.text_model.specs.declared.line.Line.{Line}
 use Rattle.text_model.specs.declared.line.Line.TheVariants.{Born}
-use Rattle.object_model.specs.Setup.{young_words}
+use Rattle.object_model.specs.Setup.{Setup, young_words}
 use Rattle.object_model.specs.Newborn.{Request}
 use Rattle.object_model.specs.Shapes.{is_fixed_shape, is_array_shape, is_weak_shape}
 use Rattle.store_model.specs.Store.{Store, unsettled_words, counted_words}
@@ -28,7 +28,9 @@ use Rattle.heap_parts.specs.Parts.{HeapParts}
 use Rattle.heap_parts.specs.StandsFor.{PartsStandFor}
 use Rattle.heap_parts.specs.Births.{HasNurseryRoom, HasOldRoom, BearsYoung, BearsOld}
 use Rattle.heap_core.specs.Commands.{AreStanding, AreReady}
-use Rattle.heap_core.specs.Bearing.{PartsAppend, IsAsked, MayAsk, HasRoomFor, IsFitting, MayBear, BearsKnown}
+use Rattle.collect_laws.specs.Room.{HasRoomFor, BearsOne}
+use Rattle.collect_laws.proofs.CommandLaws.{bears_one}
+use Rattle.heap_core.specs.Bearing.{IsAsked, MayAsk, IsFitting, MayBear, BearsKnown}
 use Rattle.nursery_gaps.specs.Ranges.{Range as NurseryRange, AreRising}
 use Rattle.heap_core.proofs.Ready.{passed, one_slot, or_false}
 use Rattle.heap_core.proofs.LookLaws.{counted_told}
@@ -79,24 +81,15 @@ array_may heap root type_id len ready =
     birth_passed (value_at heap.setup.types type_id) heap is_array_shape root type_id len ready.standing refl array-plain one.0
     (len_in_range root type_id len (passed (is_above (NewArray root type_id len)) Range _ ready.accepted).0) one.1
 
--- what is asked for is born where there is room
-pub fits_in_room : (heap : HeapParts) (root type_id items : ℕ) (info : TypeInfo) → IsAsked heap root type_id info items → HasRoomFor heap (words_in info.shape items)
-    → IsFitting heap root type_id info items
-fits_in_room heap root type_id items info asked room = record {
-  standing = asked.standing;
-  known = asked.known;
-  root_in = asked.root_in;
+-- what is asked for is born where there is room, also in parts that came after
+pub fits_in_room : (heap new : HeapParts) (root type_id items : ℕ) (info : TypeInfo) → IsAsked heap root type_id info items → new.setup ≡ heap.setup → AreStanding new
+    → HasRoomFor new (words_in info.shape items) → IsFitting new root type_id info items
+fits_in_room heap new root type_id items info asked setup standing room = record {
+  standing = standing;
+  known = ap (λ (s : Setup). value_at s.types type_id) setup ∙ asked.known;
+  root_in = (let slot = asked.root_in in let same = ap (λ (s : Setup). s.settings.roots) setup in omega (arith, slot, same));
   items_few = asked.items_few;
-  nursery = room.nursery;
-  limit = room.limit;
-}
-
-pub may_in_room : (heap : HeapParts) (root type_id items : ℕ) → MayAsk heap root type_id items
-    → ((info : TypeInfo) → value_at heap.setup.types type_id ≡ Some info → HasRoomFor heap (words_in info.shape items)) → MayBear heap root type_id items
-may_in_room heap root type_id items may room = record {
-  info = may.info;
-  plain = may.plain;
-  fits = fits_in_room heap root type_id items may.info may.asked (room may.info may.asked.known);
+  room = room;
 }
 
 -- a type that was found is the one that fits
@@ -119,7 +112,7 @@ rising-least from to (x ∷ ranges) r = let more = rising-least (x.0 + x.1) to r
 pub nursery_room : (heap : HeapParts) (root type_id items : ℕ) (info : TypeInfo) → IsFitting heap root type_id info items → HasNurseryRoom heap root info items
 nursery_room heap root type_id items info f =
     let s = f.standing.stands in let laid = s.words.young.laid_out in
-    let most = s.made.ranges.1 in let room = f.nursery in let slot = f.root_in in
+    let most = s.made.ranges.2.2.1 in let room = f.room.limit in let slot = f.root_in in
     let least = rising-least 1 heap.nursery.gap laid.below laid.lower in record {
       slot = omega (arith, slot, s.slots.many);
       items_few = f.items_few;
@@ -132,7 +125,7 @@ nursery_room heap root type_id items info f =
 pub old_room : (heap : HeapParts) (root type_id items : ℕ) (info : TypeInfo) → IsFitting heap root type_id info items → HasOldRoom heap root info items
 old_room heap root type_id items info f =
     let s = f.standing.stands in
-    let most = s.made.ranges.2.2.1 in let room = f.limit in let slot = f.root_in in let fresh = s.sums.fresh_old in record {
+    let most = s.made.ranges.2.2.1 in let room = f.room.limit in let slot = f.root_in in let fresh = s.sums.fresh_old in record {
       slot = omega (arith, slot, s.slots.many);
       items_few = f.items_few;
       stands = record { live = _; waiting = s.waiting; blocks = s.words.blocks };
@@ -144,7 +137,7 @@ old_room heap root type_id items info f =
 -- what a birth needs beside room
 pub can_bear : (heap : HeapParts) (root type_id items birth : ℕ) (info : TypeInfo) (weak : Bool) → IsFitting heap root type_id info items → is_weak_shape info.shape ≡ weak
     → type_id < 65536 → birth ≡ heap.next → birth ≤ 9223372036854775806 → CanBear weak heap type_id info items
-can_bear heap root type_id items birth info weak f kind small is low = record { known = f.known; small = small; kind = kind; limit = f.limit; next = omega (arith, is, low) }
+can_bear heap root type_id items birth info weak f kind small is low = record { known = f.known; small = small; kind = kind; limit = f.room.limit; next = omega (arith, is, low) }
 
 -- an object was born in the nursery
 pub bears_young : (heap new : HeapParts) (root type_id items birth : ℕ) (info : TypeInfo) (before after : List Line) → MayBear heap root type_id items
@@ -181,94 +174,19 @@ bears_old heap mid new root type_id items birth info before after may found smal
         is_old = true;
         large = λ more. refl;
         small = λ few ungapped. absurd (
-            let s = f.standing.stands in let room = f.nursery in
-            full few heap.nursery.cursor (room_ungapped heap f.standing.store s (words_in info.shape items) ungapped (omega (arith, room))));
+            let s = f.standing.stands in
+            full few heap.nursery.cursor (room_ungapped heap f.standing.store s (words_in info.shape items) ungapped (f.room.nursery ungapped few)));
         appended = appended ∙ ap (λ (k : ℕ). before ++ Born k true ∷ []) is;
         stands = λ store s. old_stands heap new store root type_id items info s
             (can_bear heap root type_id items birth info false f (plain_found heap root type_id items info may found) small is low) b;
       };
     }
 
--- no collection came before it
-no_collection : (heap : HeapParts) (store : Store) (s : PartsStandFor heap store) (n : ℕ) → heap.unsettled + heap.fresh + n ≤ heap.setup.settings.nursery
-    → heap.unsettled + heap.old_words + n ≤ heap.setup.settings.limit → MakesRoom heap.setup.settings store n [] store
-no_collection heap store s n nursery limit =
-    let settings = heap.setup.settings in
-    let young : needs_block settings store n ≡ false =
-    (let unsettled = s.sums.unsettled_are in let fresh = s.counts.fresh_is in
-    let low : unsettled_words store.kept store.settled + store.fresh + n ≤ settings.nursery = omega (arith, unsettled, fresh, nursery) in grind (arith, nat_tests)) in
-    let all : exceeds_limit settings store n ≡ false =
-    (let counted = counted_told heap store s in let low : counted_words store + n ≤ settings.limit = omega (arith, counted, limit) in grind (arith, nat_tests)) in
-    record {
-      mid = store;
-      first = [];
-      second = [];
-      block = rw young (refl, refl);
-      collect = rw all (refl, refl);
-      printed = refl;
-    }
-
--- the birth that is asked for is one within room
-pub birth_with_room : (heap : HeapParts) (store : Store) (request : Request) (info : TypeInfo) (is_old : Bool) → IsFitting heap request.slot request.type_id info request.items → PartsStandFor heap store
-    → (young_words heap.setup.settings < words_in info.shape request.items → is_old ≡ true)
-    → (words_in info.shape request.items ≤ young_words heap.setup.settings → heap.gapped ≡ false → is_old ≡ false)
-    → BirthWithRoom heap.setup info store request (Born heap.next is_old ∷ []) (with_birth is_old store info request)
-birth_with_room heap store request info is_old f s large small = record {
-  mid = store;
-  before = [];
-  own = Born heap.next is_old ∷ [];
-  made_room = no_collection heap store s (words_in info.shape request.items) f.nursery f.limit;
-  fits = (let counted = counted_told heap store s in let limit = f.limit in omega (arith, counted, limit));
-  born = record {
-    is_old = is_old;
-    large = large;
-    small = λ l gapped. small l (sym s.counts.gapped_is ∙ gapped);
-    printed = ap (λ (k : ℕ). Born k is_old ∷ []) (sym s.counts.next_is);
-    leaves = refl;
-  };
-  printed = refl;
-}
-
-births_of : (heap new : HeapParts) (root type_id items : ℕ) (before after : List Line) → MayBear heap root type_id items → (b : BearsKnown heap new root type_id items before after)
-    → (store : Store) → PartsStandFor heap store
-    → Births heap.setup store (array_request root type_id items) (Born heap.next b.bears.is_old ∷ []) (with_birth b.bears.is_old store b.info (array_request root type_id items))
-births_of heap new root type_id items before after may b store s =
-    let f = fits_found heap root type_id items b.info may b.known in
-    subst (λ (found : Option TypeInfo). BirthWithRoomOf found heap.setup store (array_request root type_id items) (Born heap.next b.bears.is_old ∷ [])
-    (with_birth b.bears.is_old store b.info (array_request root type_id items))) (sym b.known)
-    (birth_with_room heap store (array_request root type_id items) b.info b.bears.is_old f s b.bears.large b.bears.small)
-
-pub fixed_does : (heap new : HeapParts) (root type_id : ℕ) (before after : List Line) → MayBear heap root type_id 0 → BearsKnown heap new root type_id 0 before after
-    → PartsAppend heap new (NewFixed root type_id) before after
-unfolding Does
-fixed_does heap new root type_id before after may b = record {
-  lines = Born heap.next b.bears.is_old ∷ [];
-  appended = b.bears.appended;
-  does = record {
-    setup = b.bears.setup;
-    does = λ store s. (
-      with_birth b.bears.is_old store b.info (array_request root type_id 0),
-      births_of heap new root type_id 0 before after may b store s,
-      b.bears.stands store s,
-    );
-  };
-}
-
-pub array_does : (heap new : HeapParts) (root type_id len : ℕ) (before after : List Line) → MayBear heap root type_id len → BearsKnown heap new root type_id len before after
-    → PartsAppend heap new (NewArray root type_id len) before after
-unfolding Does
-array_does heap new root type_id len before after may b = record {
-  lines = Born heap.next b.bears.is_old ∷ [];
-  appended = b.bears.appended;
-  does = record {
-    setup = b.bears.setup;
-    does = λ store s. (
-      with_birth b.bears.is_old store b.info (array_request root type_id len),
-      births_of heap new root type_id len before after may b store s,
-      b.bears.stands store s,
-    );
-  };
-}
+-- it is a birth of each store that the parts stand for
+pub one_born : {heap new : HeapParts} {root type_id items : ℕ} {before after : List Line} (b : BearsKnown heap new root type_id items before after)
+    → BearsOne b.info (λ store. array_request root type_id items) heap new before after
+one_born {root = root} {type_id = type_id} {items = items} b =
+    bears_one b.info (λ store. array_request root type_id items) items b.bears.is_old (λ store. refl) b.bears.setup b.bears.large b.bears.small b.bears.appended b.bears.stands
 
 -- what follows where a call was done
 pub on_ok : {P Q : Type 0} (r : Result (Unit {0}) AllocError) → (P → Q) → OnOk r P → OnOk r Q

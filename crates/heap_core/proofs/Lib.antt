@@ -27,3 +27,4 @@ pub mod WeakBearLaws
 pub mod Runs
 pub mod TestStores
 pub mod WordCalls
+pub mod RoomCalls

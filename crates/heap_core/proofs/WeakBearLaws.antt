@@ -21,20 +21,21 @@ use Rattle.heap_parts.specs.Parts.{HeapParts, place_in}
 use Rattle.heap_parts.specs.StandsFor.{PartsStandFor}
 use Rattle.heap_parts.specs.WeakBirths.{HasWeakRoom, BearsWeakYoung, BearsWeakOld, BearsWeak}
 use Rattle.frame_laws.proofs.SlotLaws.{slot-pointer}
-use Rattle.heap_core.specs.Commands.{AreReady}
-use Rattle.heap_core.specs.Bearing.{PartsAppend, HasRoomFor, IsFitting, MayBearWeak}
+use Rattle.collect_laws.specs.Room.{HasRoomFor}
+use Rattle.collect_laws.proofs.CommandLaws.{bears_one}
+use Rattle.heap_core.specs.Commands.{AreStanding, AreReady}
+use Rattle.heap_core.specs.Bearing.{IsFitting, MayBearWeak, BearsWeakKnown}
 use Rattle.heap_core.proofs.SlotCalls.{slot-holds}
 use Rattle.heap_core.proofs.BirthLaws.{CanBear, young_born, old_born, old_listed, room_ungapped}
-use Rattle.heap_core.proofs.BearLaws.{nursery_room, old_room, fits_in_room, can_bear, birth_with_room}
-use Rattle.heap_core.proofs.WeakReady.{new_weak_ready, no_type}
+use Rattle.heap_core.proofs.BearLaws.{nursery_room, old_room, fits_in_room, can_bear}
+use Rattle.heap_core.proofs.WeakReady.{new_weak_ready}
 
--- a weak object that is not refused may be born where there is room
-pub weak_in_room : (heap : HeapParts) (root type_id target : ℕ) (found : Option TypeInfo) → value_at heap.setup.types type_id ≡ found → AreReady heap (NewWeak root type_id target)
-    → ((info : TypeInfo) → value_at heap.setup.types type_id ≡ Some info → HasRoomFor heap (words_in info.shape 0)) → MayBearWeak heap root type_id
-weak_in_room heap root type_id target None is ready room = absurd (no_type heap root type_id target ready is)
-weak_in_room heap root type_id target (Some info) is ready room =
+-- a weak object that is not refused may be born where there is room, also in parts that came after
+pub weak_in_room : (heap new : HeapParts) (root type_id target : ℕ) (info : TypeInfo) → value_at heap.setup.types type_id ≡ Some info → AreReady heap (NewWeak root type_id target)
+    → new.setup ≡ heap.setup → AreStanding new → HasRoomFor new (words_in info.shape 0) → MayBearWeak new root type_id
+weak_in_room heap new root type_id target info is ready setup standing room =
     let asks = new_weak_ready heap root type_id target info ready is in
-    record { info = info; weak = asks.weak; fits = fits_in_room heap root type_id 0 info asks.asked (room info is) }
+    record { info = info; weak = asks.weak; fits = fits_in_room heap new root type_id 0 info asks.asked setup standing room }
 
 -- a type that was found is that of the weak object
 weak_found : (heap : HeapParts) (root type_id : ℕ) (info : TypeInfo) → MayBearWeak heap root type_id → value_at heap.setup.types type_id ≡ Some info
@@ -76,13 +77,21 @@ young_is_born heap new root type_id target info weak can b =
           (young_born heap b.born store root type_id 0 (place_in heap target) info true s can (slot-pointer heap.slots s.places target s.slots.pointers) b.bears));
     }
 
+-- a weak object is not larger than an object of the nursery may be
+weak_small : (heap : HeapParts) (root type_id : ℕ) (info : TypeInfo) → info.shape ≡ Weak → IsFitting heap root type_id info 0 → words_in info.shape 0 ≤ young_words heap.setup.settings
+weak_small heap root type_id info weak f =
+    let three : words_in info.shape 0 ≡ 3 = ap (λ (s : Shape). words_in s 0) weak in
+    let ranges = f.standing.stands.made.ranges in let nursery = ranges.0 in let young = ranges.2.0 in
+    let least : 3 ≤ young_words heap.setup.settings = le-min (omega (arith, young)) (omega (arith, nursery)) in
+    omega (arith, three, least)
+
 old_is_born : (heap new : HeapParts) (root type_id target : ℕ) (info : TypeInfo) → info.shape ≡ Weak → IsFitting heap root type_id info 0 → CanBear true heap type_id info 0
     → BearsWeakOld heap new root type_id info (place_in heap target) → WeakIsBorn true heap new root type_id target info
 old_is_born heap new root type_id target info weak f can b = record {
   setup = ap (λ (h : HeapParts). h.setup) b.is ∙ (ap (λ (h : HeapParts). h.setup) b.bears.is ∙ ap (λ (h : HeapParts). h.setup) b.bears.takes.keeps.only);
   small = λ ungapped. absurd (
-      let s = f.standing.stands in let room = f.nursery in
-      b.full heap.nursery.cursor (room_ungapped heap f.standing.store s (words_in info.shape 0) ungapped (omega (arith, room))));
+      let s = f.standing.stands in
+      b.full heap.nursery.cursor (room_ungapped heap f.standing.store s (words_in info.shape 0) ungapped (f.room.nursery ungapped (weak_small heap root type_id info weak f))));
   stands = λ store s.
       subst (λ (h : HeapParts). PartsStandFor h (with_birth true store info (weak_request store root type_id target)))
       (ap (λ (ws : List ℕ). record b.born { weaks = ws ++ b.bears.place ∷ [] }) (sym (old_listed b.bears)) ∙ sym b.is)
@@ -95,33 +104,18 @@ is_born : (is_old : Bool) (heap new : HeapParts) (root type_id target : ℕ) (in
 is_born true heap new root type_id target info weak f can b = old_is_born heap new root type_id target info weak f can b
 is_born false heap new root type_id target info weak f can b = young_is_born heap new root type_id target info weak can b
 
--- a weak object is not larger than an object of the nursery may be
-weak_small : (heap : HeapParts) (root type_id : ℕ) (info : TypeInfo) → info.shape ≡ Weak → IsFitting heap root type_id info 0 → words_in info.shape 0 ≤ young_words heap.setup.settings
-weak_small heap root type_id info weak f =
-    let three : words_in info.shape 0 ≡ 3 = ap (λ (s : Shape). words_in s 0) weak in
-    let ranges = f.standing.stands.made.ranges in let nursery = ranges.0 in let young = ranges.2.0 in
-    let least : 3 ≤ young_words heap.setup.settings = le-min (omega (arith, young)) (omega (arith, nursery)) in
-    omega (arith, three, least)
-
-pub new_weak_does : (heap new : HeapParts) (root type_id target birth : ℕ) (is_old : Bool) (info : TypeInfo) (before after : List Line) → MayBearWeak heap root type_id
+pub new_weak_bears : (heap new : HeapParts) (root type_id target birth : ℕ) (is_old : Bool) (info : TypeInfo) (before after : List Line) → MayBearWeak heap root type_id
     → value_at heap.setup.types type_id ≡ Some info → type_id < 65536 → birth ≡ heap.next → birth ≤ 9223372036854775806
     → BearsWeak is_old heap new root type_id info (place_in heap target) → after ≡ before ++ Born birth is_old ∷ []
-    → PartsAppend heap new (NewWeak root type_id target) before after
-unfolding Does
-new_weak_does heap new root type_id target birth is_old info before after may found small is low bears appended =
+    → BearsWeakKnown heap new root type_id target before after
+new_weak_bears heap new root type_id target birth is_old info before after may found small is low bears appended =
     let known = weak_found heap root type_id info may found in
     let can = can_bear heap root type_id 0 birth info true known.1 (ap is_weak_shape known.0) small is low in
     let born = is_born is_old heap new root type_id target info known.0 known.1 can bears in
     let few = weak_small heap root type_id info known.0 known.1 in record {
-      lines = Born heap.next is_old ∷ [];
-      appended = appended ∙ ap (λ (k : ℕ). before ++ Born k is_old ∷ []) is;
-      does = record {
-        setup = born.setup;
-        does = λ store s. let request : Request = weak_request store root type_id target in (
-          with_birth is_old store info request,
-          subst (λ (known : Option TypeInfo). BirthWithRoomOf known heap.setup store request (Born heap.next is_old ∷ []) (with_birth is_old store info request)) (sym found)
-              (birth_with_room heap store request info is_old known.1 s (λ more. absurd (let no : ⊥ = omega (arith, more, few) in no)) (λ l ungapped. born.small ungapped)),
-          born.stands store s,
-        );
-      };
+      info = info;
+      known = found;
+      bears = bears_one info (λ store. weak_request store root type_id target) 0 is_old (λ store. refl) born.setup
+          (λ more. absurd (let no : ⊥ = omega (arith, more, few) in no)) (λ l ungapped. born.small ungapped)
+          (appended ∙ ap (λ (k : ℕ). before ++ Born k is_old ∷ []) is) born.stands;
     }

@@ -1,5 +1,5 @@
 -- Births: what a call asks of the parts of a heap, and what it does.
-use Rattle.std.specs.Prelude.{◌≡◌, ℕ, ◌+◌, ◌<◌, ◌≤◌, Bool, true, false, List, [], ◌∷◌, ◌++◌, Some}
+use Rattle.std.specs.Prelude.{◌≡◌, ℕ, ◌<◌, ◌≤◌, Bool, true, false, List, [], ◌∷◌, ◌++◌, Some}
 use Rattle.type_table.specs.declared.info.Shape.TheVariants.{Weak}
 use Rattle.type_table.specs.declared.info.TypeInfo.{TypeInfo}
 use Rattle.type_table.specs.Table.{value_at}
@@ -10,10 +10,11 @@ use Rattle.text_model.specs.declared.line.Line.TheVariants.{Born}
 use Rattle.object_model.specs.Setup.{young_words}
 use Rattle.object_model.specs.Shapes.{is_weak_shape}
 use Rattle.store_model.specs.Store.{Store}
-use Rattle.store_model.specs.Births.{array_request}
+use Rattle.store_model.specs.Births.{array_request, weak_request}
 use Rattle.store_model.specs.Birth.{with_birth}
 use Rattle.heap_parts.specs.Parts.{HeapParts}
 use Rattle.heap_parts.specs.StandsFor.{PartsStandFor}
+use Rattle.collect_laws.specs.Room.{HasRoomFor, BearsOne}
 use Rattle.heap_core.specs.Commands.{AreStanding, PartsDo}
 
 -- the parts do the command, and its lines are appended
@@ -35,19 +36,13 @@ pub record MayAsk (heap : HeapParts) (root type_id items : ℕ) : Type 0 where
   pub plain : is_weak_shape info.shape ≡ false
   pub asked : IsAsked heap root type_id info items
 
--- an object of so many words can be born without a collection
-pub record HasRoomFor (heap : HeapParts) (words : ℕ) : Type 0 where
-  pub nursery : heap.unsettled + heap.fresh + words ≤ heap.setup.settings.nursery
-  pub limit : heap.unsettled + heap.old_words + words ≤ heap.setup.settings.limit
-
--- an object of the type may be born: no collection is needed for it
+-- an object of the type may be born: there is room for it
 pub record IsFitting (heap : HeapParts) (root type_id : ℕ) (info : TypeInfo) (items : ℕ) : Type 0 where
   pub standing : AreStanding heap
   pub known : value_at heap.setup.types type_id ≡ Some info
   pub root_in : root < heap.setup.settings.roots
   pub items_few : items ≤ 16777216
-  pub nursery : heap.unsettled + heap.fresh + words_in info.shape items ≤ heap.setup.settings.nursery
-  pub limit : heap.unsettled + heap.old_words + words_in info.shape items ≤ heap.setup.settings.limit
+  pub room : HasRoomFor heap (words_in info.shape items)
 
 -- and so may one of a type that is there, and not weak
 pub record MayBear (heap : HeapParts) (root type_id items : ℕ) : Type 0 where
@@ -76,3 +71,9 @@ pub record BearsKnown (old new : HeapParts) (root type_id items : ℕ) (before a
   pub info : TypeInfo
   pub known : value_at old.setup.types type_id ≡ Some info
   pub bears : Bears old new root type_id info items before after
+
+-- and of a weak object, whose target is what another slot holds
+pub record BearsWeakKnown (old new : HeapParts) (root type_id target : ℕ) (before after : List Line) : Type 0 where
+  pub info : TypeInfo
+  pub known : value_at old.setup.types type_id ≡ Some info
+  pub bears : BearsOne info (λ store. weak_request store root type_id target) old new before after

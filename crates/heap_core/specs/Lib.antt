@@ -4,6 +4,7 @@ pub mod StructLines
 pub mod Seen
 pub mod Bearing
 pub mod Room
+pub mod HeapBirths
 pub mod Pinning
 pub mod Telling
 pub mod TestStores

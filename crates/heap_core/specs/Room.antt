@@ -1,21 +1,68 @@
--- What the collections before a birth answer.
-use Rattle.std.specs.Prelude.{◌≡◌, ℕ, List, Result, Ok, Err}
+-- Births with the collections before them: what the calls over parts answer.
+use Rattle.std.specs.Prelude.{◌≡◌, ℕ, List, ◌++◌, Some, Result, Ok, Err}
+use Rattle.type_table.specs.declared.info.TypeInfo.{TypeInfo}
+use Rattle.type_table.specs.Table.{value_at}
+use Rattle.type_table.specs.Words.{words_in}
+use Rattle.text_model.specs.declared.command.Command.{Command}
 use Rattle.text_model.specs.declared.line.Line.{Line}
+use Rattle.store_model.specs.Births.{array_request}
+use Rattle.heap_parts.specs.Parts.{HeapParts}
+use Rattle.collect_laws.specs.Events.{Undergoes, Underwent}
+use Rattle.collect_laws.specs.Collections.{MakingRoom, MakesRoomFor}
+use Rattle.collect_laws.specs.Room.{HasRoomFor, FindsNoRoom, IsCommandRefused, BearsOne}
 use Rattle.heap_core.specs.declared.fault.HeapFault.{HeapFault}
 use Rattle.heap_core.specs.declared.fault.HeapFault.TheVariants.{Spent, OutOfMemory, HeapLimit}
-use Rattle.heap_parts.specs.Parts.{HeapParts}
-use Rattle.collect_laws.specs.Collections.{MakesRoomFor}
-use Rattle.collect_laws.specs.Room.{HasRoomFor, FindsNoRoom}
+use Rattle.heap_core.specs.Bearing.{PartsAppend}
 
--- there is room for so many words after the lines of collections
+-- what a list held stands in front in it
+abbrev pub KeepsLines : List Line → List Line → Type 0
+KeepsLines before after = (rest : List Line) × (after ≡ before ++ rest)
+
+-- the parts stand where the collections before a birth of so many words led
+abbrev pub LedByRoom : HeapParts → HeapParts → Type 0
+LedByRoom old new = (words : ℕ) × Underwent (MakingRoom words) old new
+
+-- there is room for so many words, behind the lines of collections
 pub record FindsRoom (words : ℕ) (old new : HeapParts) (before after : List Line) : Type 0 where
   pub made : MakesRoomFor words old new before after
   pub room : HasRoomFor new words
 
 -- The collections before a birth of so many words: there is room afterwards, or the limit refuses the birth. Where memory ran out
--- inside a collection nothing is said of the parts. Where it ran out behind them they stand where the collections led.
-abbrev pub MakesRoom : ℕ → HeapParts → HeapParts → List Line → List Line → Result (Unit {0}) HeapFault → Type 0
-MakesRoom words old new before after (Ok done) = FindsRoom words old new before after
-MakesRoom words old new before after (Err Spent) = after ≡ before
-MakesRoom words old new before after (Err OutOfMemory) = (after ≡ before) × ((behind : List Line) × MakesRoomFor words old new before behind)
-MakesRoom words old new before after (Err (HeapLimit counted request limit)) = (request ≡ words) × FindsNoRoom words counted limit old new before after
+-- inside a collection nothing is said of the parts.
+abbrev pub EndsRoom : ℕ → HeapParts → HeapParts → List Line → List Line → Result (Unit {0}) HeapFault → Type 0
+EndsRoom words old new before after (Ok done) = FindsRoom words old new before after
+EndsRoom words old new before after (Err Spent) = after ≡ before
+EndsRoom words old new before after (Err OutOfMemory) = KeepsLines before after × LedByRoom old new
+EndsRoom words old new before after (Err (HeapLimit counted request limit)) = (request ≡ words) × FindsNoRoom words counted limit old new before after
+
+-- room was made for an object of a type that is there, which was born then
+pub record BornInRoom (root type_id items : ℕ) (old new : HeapParts) (before after : List Line) : Type 0 where
+  pub info : TypeInfo
+  pub known : value_at old.setup.types type_id ≡ Some info
+  pub mid : HeapParts
+  pub between : List Line
+  pub found : FindsRoom (words_in info.shape items) old mid before between
+  pub bears : BearsOne info (λ store. array_request root type_id items) mid new between after
+
+-- the limit refuses it
+pub record RefusedInRoom (type_id items counted request limit : ℕ) (old new : HeapParts) (before after : List Line) : Type 0 where
+  pub info : TypeInfo
+  pub known : value_at old.setup.types type_id ≡ Some info
+  pub asked : request ≡ words_in info.shape items
+  pub refused : FindsNoRoom (words_in info.shape items) counted limit old new before after
+
+-- A birth with the collections before it.
+abbrev pub BearsInRoom : ℕ → ℕ → ℕ → HeapParts → HeapParts → List Line → List Line → Result (Unit {0}) HeapFault → Type 0
+BearsInRoom root type_id items old new before after (Ok done) = BornInRoom root type_id items old new before after
+BearsInRoom root type_id items old new before after (Err Spent) = after ≡ before
+BearsInRoom root type_id items old new before after (Err OutOfMemory) = KeepsLines before after × LedByRoom old new
+BearsInRoom root type_id items old new before after (Err (HeapLimit counted request limit)) =
+    RefusedInRoom type_id items counted request limit old new before after
+
+-- How the command of a birth ends: it is done, or the limit refuses it, or memory ran out, inside a collection or elsewhere.
+abbrev pub EndsBirth : Command → HeapParts → HeapParts → List Line → List Line → Result (Unit {0}) HeapFault → Type 0
+EndsBirth command old new before after (Ok done) = PartsAppend old new command before after
+EndsBirth command old new before after (Err Spent) = after ≡ before
+EndsBirth command old new before after (Err OutOfMemory) = KeepsLines before after × LedByRoom old new
+EndsBirth command old new before after (Err (HeapLimit counted request limit)) =
+    Undergoes (IsCommandRefused command counted request limit) old new before after

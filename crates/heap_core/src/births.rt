@@ -1,15 +1,15 @@
 //! Births.
-ghost use Rattle.std.specs.Prelude.{◌≡◌, ◌≤◌, ℕ, Some, IsTrue, IsFalse, OnOk, OnErr, IfErr, Err};
-ghost use Rattle.type_table.specs.declared.info.TypeInfo.{TypeInfo as Info};
-ghost use Rattle.type_table.specs.Table.{value_at};
+ghost use Rattle.std.specs.Prelude.{◌≡◌, ◌≤◌, ℕ, IsTrue, IsFalse, OnOk, OnErr, Err};
 ghost use Rattle.type_table.specs.Words.{words_in};
 ghost use Rattle.nursery_gaps.specs.Nursery.{Fits};
 ghost use Rattle.object_model.specs.Setup.{young_words};
 ghost use Rattle.text_model.specs.declared.command.Command.TheVariants.{NewFixed, NewArray};
 ghost use Rattle.heap_parts.specs.Births.{BearsYoung};
 ghost use Rattle.heap_core.specs.declared.fault.HeapFault.TheVariants.{Spent};
-ghost use Rattle.heap_core.specs.Bearing.{PartsAppend, HasRoomFor, IsFitting, MayBear, BearsKnown};
-ghost use Rattle.heap_core.specs.Commands.{AreStanding, AreReady, CanDo, PartsKeep, Performs, Keeps, fault_of};
+ghost use Rattle.heap_core.specs.Bearing.{IsFitting, MayAsk, MayBear, BearsKnown};
+ghost use Rattle.heap_core.specs.Commands.{AreReady, CanDo, PartsKeep};
+ghost use Rattle.heap_core.specs.Room.{BearsInRoom, EndsBirth};
+ghost use Rattle.heap_core.specs.HeapBirths.{AnswersBirth};
 
 use crate::collecting::{Collector, make_room};
 use crate::collections::lists_of;
@@ -26,8 +26,12 @@ pub(crate) const LAST_BIRTH: u64 = (1 << 63) - 2;
 impl Heap {
     /// An object of a fixed type is born for a slot, its numbers 0 and its references nil, and its line is appended. An
     /// object of more words than the setting `young` is old from birth (a rule of this project), and so is one for which a
-    /// nursery with pinned objects has no room. After an error the heap represents the stores that it represented, and no
-    /// line is there.
+    /// nursery with pinned objects has no room.
+    ///
+    /// Before the birth a minor collection comes where the nursery has no room for it, with a major step where one is due, and
+    /// a whole collection where it would exceed the limit. Their lines are appended too. `HeapLimit` comes where the birth
+    /// exceeds the limit also then: their lines stand, and the heap is as they left it. `OutOfMemory` leaves the heap spent where
+    /// memory ran out inside a collection, and else as the collections left it.
     pub fn new_fixed(
         &mut self,
         root: u32,
@@ -35,11 +39,8 @@ impl Heap {
         out: &mut Vec<Line>,
     ) -> Result<(), HeapFault>
         requires { CanDo self.old (NewFixed root type_id) }
-        ensures performs { OnOk result (Performs self.old self.new (NewFixed root type_id) out.old.items out.new.items) }
-        ensures err { OnErr result (Keeps self.old self.new) }
-        ensures err_out { OnErr result (out.new.items ≡ out.old.items) }
-        ensures cause { IfErr result (λ fault. fault ≡ fault_of self.old.is_spent) }
-        ensures spent { IsTrue self.old.is_spent → (result ≡ Err Spent) × (self.new ≡ self.old) }
+        ensures answers { AnswersBirth (NewFixed root type_id) self.old self.new out.old.items out.new.items result }
+        ensures spent { IsTrue self.old.is_spent → result ≡ Err Spent }
     {
         match &mut self.state {
             State::Started(parts) => {
@@ -60,11 +61,8 @@ impl Heap {
         out: &mut Vec<Line>,
     ) -> Result<(), HeapFault>
         requires { CanDo self.old (NewArray root type_id len) }
-        ensures performs { OnOk result (Performs self.old self.new (NewArray root type_id len) out.old.items out.new.items) }
-        ensures err { OnErr result (Keeps self.old self.new) }
-        ensures err_out { OnErr result (out.new.items ≡ out.old.items) }
-        ensures cause { IfErr result (λ fault. fault ≡ fault_of self.old.is_spent) }
-        ensures spent { IsTrue self.old.is_spent → (result ≡ Err Spent) × (self.new ≡ self.old) }
+        ensures answers { AnswersBirth (NewArray root type_id len) self.old self.new out.old.items out.new.items result }
+        ensures spent { IsTrue self.old.is_spent → result ≡ Err Spent }
     {
         match &mut self.state {
             State::Started(parts) => {

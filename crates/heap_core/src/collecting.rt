@@ -1,13 +1,14 @@
 //! Collections: minor collections, blocks, cycles, and the room for a birth.
 ghost use Rattle.std.specs.Prelude.{◌≡◌, ◌≤◌, [], OnOk, OnErr};
 ghost use Rattle.text_model.specs.declared.command.Command.TheVariants.{Minor, Step, Collect};
+ghost use Rattle.store_model.specs.Collections.{is_scanning as is_scanning_phase};
 ghost use Rattle.heap_parts.specs.Collects.{CollectsMinor, StepsMajor};
 ghost use Rattle.heap_phases.specs.Steps.{CanStep};
 ghost use Rattle.collect_laws.specs.Tests.{is_step_due_in, needs_block_in, exceeds_limit_in};
 ghost use Rattle.collect_laws.specs.Collections.{CollectsStep, CollectsBlock, CollectsCycle, CollectsAll, MakesNurseryRoom, MakesLimitRoom, MakesRoomFor};
 ghost use Rattle.heap_core.specs.Bearing.{PartsAppend};
 ghost use Rattle.heap_core.specs.Commands.{AreStanding};
-ghost use Rattle.heap_core.specs.Room.{MakesRoom};
+ghost use Rattle.heap_core.specs.Room.{EndsRoom};
 
 use crate::fault::HeapFault;
 use heap_parts::Parts;
@@ -85,8 +86,8 @@ pub(crate) fn collect_all(
 /// for it, and a whole collection where it would exceed the limit.
 ///
 /// `Spent` comes where memory ran out inside a collection: the parts are spent then, and no line is appended. `HeapLimit` comes
-/// where the birth exceeds the limit also after a whole collection, whose lines are appended then too. After `OutOfMemory` no
-/// line is appended, and the parts stand where the collections led.
+/// where the birth exceeds the limit also after a whole collection, whose lines are appended then too. After `OutOfMemory` the
+/// parts stand where the collections led.
 pub(crate) fn make_room(
     parts: &mut Parts,
     collector: &mut Collector,
@@ -95,13 +96,15 @@ pub(crate) fn make_room(
 ) -> Result<(), HeapFault>
     requires standing { AreStanding parts.old }
     requires few { words ≤ 16777219 }
-    ensures { MakesRoom words parts.old parts.new out.old.items out.new.items result }
+    ensures { EndsRoom words parts.old parts.new out.old.items out.new.items result }
 {
     collector.lines.clear();
     if make_collections(parts, collector, words).is_err() {
         return Err(HeapFault::Spent);
     }
-    out.append(&mut collector.lines)?;
+    if out.append(&mut collector.lines).is_err() {
+        return Err(HeapFault::OutOfMemory);
+    }
     if exceeds_limit(parts, words) {
         return Err(HeapFault::HeapLimit {
             counted: parts.counted_words(),
@@ -180,7 +183,17 @@ fn exceeds_limit(parts: &Parts, words: u64) -> bool
 fn is_step_due(parts: &Parts) -> bool
     ensures { result ≡ is_step_due_in parts.now }
 {
-    parts.phase != Phase::Scanning || parts.old_words >= parts.threshold
+    !is_scanning(parts) || parts.old_words >= parts.threshold
+}
+
+/// Whether no cycle runs.
+fn is_scanning(parts: &Parts) -> bool
+    ensures { result ≡ is_scanning_phase parts.now.phase }
+{
+    match parts.phase {
+        Phase::Scanning => true,
+        Phase::Marking | Phase::Sweeping | Phase::Finalizing => false,
+    }
 }
 
 /// A minor collection, whose lines are kept.
@@ -228,7 +241,7 @@ fn make_cycle(parts: &mut Parts, collector: &mut Collector) -> Result<(), AllocE
     ensures { OnOk result (CollectsCycle parts.old parts.new collector.old.lines.items collector.new.lines.items) }
 {
     make_block(parts, collector)?;
-    'blocks: while parts.phase != Phase::Scanning {
+    'cycle: while !is_scanning(parts) {
         make_block(parts, collector)?;
     }
     Ok(())
@@ -239,7 +252,7 @@ fn make_cycles(parts: &mut Parts, collector: &mut Collector) -> Result<(), Alloc
     requires { AreStanding parts.old }
     ensures { OnOk result (CollectsAll parts.old parts.new collector.old.lines.items collector.new.lines.items) }
 {
-    if parts.phase == Phase::Scanning {
+    if is_scanning(parts) {
         return make_cycle(parts, collector);
     }
     make_cycle(parts, collector)?;

@@ -1,4 +1,10 @@
 //! Commands that collect.
+ghost use Rattle.std.specs.Prelude.{◌≡◌, IsTrue, OnOk, OnErr, IfErr, Err};
+ghost use Rattle.text_model.specs.declared.command.Command.TheVariants.{Minor, Step, Collect};
+ghost use Rattle.heap_core.specs.declared.fault.HeapFault.TheVariants.{Spent};
+ghost use Rattle.heap_core.specs.Heap.{spent_heap};
+ghost use Rattle.heap_core.specs.Commands.{CanDo, Performs, fault_of};
+
 use crate::collecting::{Collector, collect_all, collect_minor, collect_step};
 use crate::fault::HeapFault;
 use crate::heap::{Heap, State};
@@ -8,7 +14,14 @@ use text_model::Line;
 
 impl Heap {
     /// A minor collection, whose lines are appended. The error is out of memory: the heap is spent then, and no line is there.
-    pub fn minor(&mut self, out: &mut Vec<Line>) -> Result<(), HeapFault> {
+    pub fn minor(&mut self, out: &mut Vec<Line>) -> Result<(), HeapFault>
+        requires { CanDo self.old Minor }
+        ensures performs { OnOk result (Performs self.old self.new Minor out.old.items out.new.items) }
+        ensures err { OnErr result (self.new ≡ spent_heap) }
+        ensures err_out { OnErr result (out.new.items ≡ out.old.items) }
+        ensures cause { IfErr result (λ fault. fault ≡ fault_of self.old.is_spent) }
+        ensures spent { IsTrue self.old.is_spent → result ≡ Err Spent }
+    {
         match &mut self.state {
             State::Started(parts) => {
                 let collector = lists_of(parts, &mut self.collector);
@@ -21,7 +34,14 @@ impl Heap {
 
     /// A minor collection and a major step of the phase that runs, whatever the threshold is. The lines of both are appended.
     /// The error is out of memory: the heap is spent then, and no line is there.
-    pub fn step(&mut self, out: &mut Vec<Line>) -> Result<(), HeapFault> {
+    pub fn step(&mut self, out: &mut Vec<Line>) -> Result<(), HeapFault>
+        requires { CanDo self.old Step }
+        ensures performs { OnOk result (Performs self.old self.new Step out.old.items out.new.items) }
+        ensures err { OnErr result (self.new ≡ spent_heap) }
+        ensures err_out { OnErr result (out.new.items ≡ out.old.items) }
+        ensures cause { IfErr result (λ fault. fault ≡ fault_of self.old.is_spent) }
+        ensures spent { IsTrue self.old.is_spent → result ≡ Err Spent }
+    {
         match &mut self.state {
             State::Started(parts) => {
                 let collector = lists_of(parts, &mut self.collector);
@@ -34,7 +54,14 @@ impl Heap {
 
     /// A whole collection: such blocks until a cycle ends, and a whole cycle more where one ran before. The lines are appended.
     /// The error is out of memory: the heap is spent then, and no line is there.
-    pub fn collect(&mut self, out: &mut Vec<Line>) -> Result<(), HeapFault> {
+    pub fn collect(&mut self, out: &mut Vec<Line>) -> Result<(), HeapFault>
+        requires { CanDo self.old Collect }
+        ensures performs { OnOk result (Performs self.old self.new Collect out.old.items out.new.items) }
+        ensures err { OnErr result (self.new ≡ spent_heap) }
+        ensures err_out { OnErr result (out.new.items ≡ out.old.items) }
+        ensures cause { IfErr result (λ fault. fault ≡ fault_of self.old.is_spent) }
+        ensures spent { IsTrue self.old.is_spent → result ≡ Err Spent }
+    {
         match &mut self.state {
             State::Started(parts) => {
                 let collector = lists_of(parts, &mut self.collector);

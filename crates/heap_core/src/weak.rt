@@ -1,10 +1,12 @@
 //! Weak objects.
-ghost use Rattle.std.specs.Prelude.{◌≡◌, [], ◌∷◌, IsTrue, IfOk, IfErr, OnOk, OnErr, Err};
+ghost use Rattle.std.specs.Prelude.{◌≡◌, [], ◌∷◌, IsTrue, IfOk, OnOk, OnErr, Err};
 ghost use Rattle.text_model.specs.declared.command.Command.TheVariants.{NewWeak, Deref};
 ghost use Rattle.text_model.specs.declared.line.Line.TheVariants.{Derefed};
 ghost use Rattle.heap_core.specs.declared.fault.HeapFault.TheVariants.{Spent};
-ghost use Rattle.heap_core.specs.Bearing.{PartsAppend, MayBearWeak};
-ghost use Rattle.heap_core.specs.Commands.{AreReady, CanDo, PartsDo, PartsKeep, Performs, Keeps, fault_of};
+ghost use Rattle.heap_core.specs.Bearing.{MayBearWeak, BearsWeakKnown};
+ghost use Rattle.heap_core.specs.Commands.{AreReady, CanDo, PartsDo, PartsKeep, Performs};
+ghost use Rattle.heap_core.specs.Room.{EndsBirth};
+ghost use Rattle.heap_core.specs.HeapBirths.{AnswersBirth};
 
 use crate::births::LAST_BIRTH;
 use crate::collecting::{Collector, make_room};
@@ -18,8 +20,8 @@ use type_table::words;
 
 impl Heap {
     /// A weak object is born for a slot, and its line is appended. Its target is what another slot holds, which it does not
-    /// keep. It is young, but where a nursery with pinned objects has no room for it. After an error the heap represents the
-    /// stores that it represented, and no line is there.
+    /// keep. It is young, but where a nursery with pinned objects has no room for it. Collections come before, and errors are, as
+    /// for an object of a fixed type.
     pub fn new_weak(
         &mut self,
         root: u32,
@@ -28,11 +30,8 @@ impl Heap {
         out: &mut Vec<Line>,
     ) -> Result<(), HeapFault>
         requires { CanDo self.old (NewWeak root type_id target) }
-        ensures performs { OnOk result (Performs self.old self.new (NewWeak root type_id target) out.old.items out.new.items) }
-        ensures err { OnErr result (Keeps self.old self.new) }
-        ensures err_out { OnErr result (out.new.items ≡ out.old.items) }
-        ensures cause { IfErr result (λ fault. fault ≡ fault_of self.old.is_spent) }
-        ensures spent { IsTrue self.old.is_spent → (result ≡ Err Spent) × (self.new ≡ self.old) }
+        ensures answers { AnswersBirth (NewWeak root type_id target) self.old self.new out.old.items out.new.items result }
+        ensures spent { IsTrue self.old.is_spent → result ≡ Err Spent }
     {
         match &mut self.state {
             State::Started(parts) => {
@@ -90,7 +89,7 @@ fn bear_weak_in_room(
     out: &mut Vec<Line>,
 ) -> Result<(), AllocError>
     requires { MayBearWeak parts.old root type_id }
-    ensures does { OnOk result (PartsAppend parts.old parts.new (NewWeak root type_id target) out.old.items out.new.items) }
+    ensures bears { OnOk result (BearsWeakKnown parts.old parts.new root type_id target out.old.items out.new.items) }
     ensures err { OnErr result (PartsKeep parts.old parts.new) }
     ensures err_out { OnErr result (out.new.items ≡ out.old.items) }
 {
