@@ -28,3 +28,4 @@ pub mod Runs
 pub mod TestStores
 pub mod WordCalls
 pub mod RoomCalls
+pub mod RoomBirths

@@ -119,9 +119,14 @@ fn bear_in_room(
     let Some(info) = parts.type_info(type_id) else {
         return Err(HeapFault::OutOfMemory);
     };
-    make_room(parts, collector, words(info, items), out)?;
-    bear(parts, root, type_id, items, out)?;
-    Ok(())
+    match make_room(parts, collector, words(info, items), out) {
+        Ok(()) => {}
+        Err(fault) => return Err(fault),
+    }
+    match bear(parts, root, type_id, items, out) {
+        Ok(()) => Ok(()),
+        Err(_) => Err(HeapFault::OutOfMemory),
+    }
 }
 
 /// An object of a type is born for a slot, and its line is appended. The error is out of memory, also where the next

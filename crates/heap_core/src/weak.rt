@@ -74,9 +74,14 @@ fn bear_weak(
     let Some(info) = parts.type_info(type_id) else {
         return Err(HeapFault::OutOfMemory);
     };
-    make_room(parts, collector, words(info, 0), out)?;
-    bear_weak_in_room(parts, root, type_id, target, out)?;
-    Ok(())
+    match make_room(parts, collector, words(info, 0), out) {
+        Ok(()) => {}
+        Err(fault) => return Err(fault),
+    }
+    match bear_weak_in_room(parts, root, type_id, target, out) {
+        Ok(()) => Ok(()),
+        Err(_) => Err(HeapFault::OutOfMemory),
+    }
 }
 
 /// A weak object is born for a slot, with what another slot holds as its target, and its line is appended. The error is

@@ -1,6 +1,5 @@
 use Rattle.std.proofs.Common.{refl, sym, ap, ◌∙◌}
 use Rattle.heap_parts.specs.Parts.{HeapParts}
-use Rattle.collect_laws.specs.Collections.{MakesRoomFor}
 use Rattle.collect_laws.proofs.BlockLaws.{told_into, untold}
 use Rattle.collect_laws.proofs.RoomLaws.{has_room, finds_no_room}
 use Rattle.heap_core.proofs.RoomCalls.{standing_after, counted_fit, without_error, appended_none, appended_where}
@@ -9,8 +8,7 @@ use Rattle.heap_core.proofs.collecting.make_room.Goals as goal
 pub returns-then-is_err-2 : goal.returns-then-is_err-2
 returns-then-is_err-2 c = (
   appended_none c.append.result c.append.new.self.items c.args.out.now.items _ (sym c.is_err-2.ensures.value ∙ c.if-is_err-2.true) c.append.ensures.items,
-  c.args.words,
-  untold (without_error c.make_collections.result (sym c.is_err.ensures.value ∙ c.if-is_err.false) c.make_collections.ensures),
+  (c.args.words, untold (without_error c.make_collections.result (sym c.is_err.ensures.value ∙ c.if-is_err.false) c.make_collections.ensures)),
 )
 
 pub exceeds_limit-requires-clause-standing : goal.exceeds_limit-requires-clause-standing
