@@ -29,3 +29,4 @@ pub mod TestStores
 pub mod WordCalls
 pub mod RoomCalls
 pub mod RoomBirths
+pub mod CollectingCalls

@@ -1,5 +1,6 @@
--- What the calls of births answer.
+-- What the calls that collect answer, and those of births.
 use Rattle.std.specs.Prelude.{◌≡◌, ℕ, false, List, ◌++◌, Result, Ok, Err, IsTrue, ◌⊎◌}
+use Rattle.std.specs.declared.alloc.AllocError.{AllocError}
 use Rattle.text_model.specs.declared.command.Command.{Command}
 use Rattle.text_model.specs.declared.line.Line.{Line}
 use Rattle.store_model.specs.Store.{Store}
@@ -40,3 +41,13 @@ AnswersBirth command old new before after (Err OutOfMemory) =
     (old.is_spent ≡ false) × KeepsLines before after × ((new ≡ spent_heap) ⊎ LeavesBirth old new)
 AnswersBirth command old new before after (Err (HeapLimit counted request limit)) =
     (old.is_spent ≡ false) × Exceeds old new command counted request limit before after
+
+-- how a call ends that collects: where memory ran out, the heap is spent
+abbrev pub EndsCall : Result (Unit {0}) AllocError → HeapSeen → HeapSeen → Result (Unit {0}) HeapFault → Type 0
+EndsCall (Ok done) old new result = (result ≡ Ok tt) × (new ≡ old)
+EndsCall (Err error) old new result = (result ≡ Err OutOfMemory) × (new ≡ spent_heap)
+
+-- and the call of a birth, where memory ran out inside a collection
+abbrev pub EndsBirthCall : Result (Unit {0}) HeapFault → HeapSeen → HeapSeen → Result (Unit {0}) HeapFault → Type 0
+EndsBirthCall (Err Spent) old new result = (result ≡ Err OutOfMemory) × (new ≡ spent_heap)
+EndsBirthCall ended old new result = (result ≡ ended) × (new ≡ old)

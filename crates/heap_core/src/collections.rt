@@ -4,6 +4,7 @@ ghost use Rattle.text_model.specs.declared.command.Command.TheVariants.{Minor, S
 ghost use Rattle.heap_core.specs.declared.fault.HeapFault.TheVariants.{Spent};
 ghost use Rattle.heap_core.specs.Heap.{spent_heap};
 ghost use Rattle.heap_core.specs.Commands.{CanDo, Performs, fault_of};
+ghost use Rattle.heap_core.specs.HeapBirths.{EndsCall, EndsBirthCall};
 
 use crate::collecting::{Collector, collect_all, collect_minor, collect_step};
 use crate::fault::HeapFault;
@@ -73,22 +74,40 @@ impl Heap {
     }
 
     /// How a collecting call ends: where memory ran out, the heap is spent.
-    fn end(&mut self, ended: Result<(), AllocError>) -> Result<(), HeapFault> {
-        if ended.is_err() {
-            self.state = State::Spent;
-            return Err(HeapFault::OutOfMemory);
+    fn end(&mut self, ended: Result<(), AllocError>) -> Result<(), HeapFault>
+        ensures { EndsCall ended self.old self.new result }
+    {
+        match ended {
+            Ok(()) => Ok(()),
+            Err(_) => {
+                self.state = State::Spent;
+                Err(HeapFault::OutOfMemory)
+            }
         }
-        Ok(())
     }
 
     /// How the call of a birth ends: where memory ran out inside a collection, the heap is spent.
-    pub(crate) fn end_birth(&mut self, ended: Result<(), HeapFault>) -> Result<(), HeapFault> {
+    pub(crate) fn end_birth(&mut self, ended: Result<(), HeapFault>) -> Result<(), HeapFault>
+        ensures { EndsBirthCall ended self.old self.new result }
+    {
         match ended {
+            Ok(()) => Ok(()),
             Err(HeapFault::Spent) => {
                 self.state = State::Spent;
                 Err(HeapFault::OutOfMemory)
             }
-            _ => ended,
+            Err(HeapFault::OutOfMemory) => Err(HeapFault::OutOfMemory),
+            Err(
+                HeapFault::HeapLimit {
+                    counted,
+                    request,
+                    limit,
+                },
+            ) => Err(HeapFault::HeapLimit {
+                counted,
+                request,
+                limit,
+            }),
         }
     }
 }
