@@ -46,7 +46,7 @@ abbrev pub steps_ahead : Settings → Store → ℕ
 steps_ahead settings store = steps_from settings store.phase store
 
 -- quotients of numbers that are no greater, or smaller by the divisor
-div-mono : (k a b : ℕ) → 0 < k → a ≤ b → a / k ≤ b / k
+pub div-mono : (k a b : ℕ) → 0 < k → a ≤ b → a / k ≤ b / k
 div-mono k a b some l = let low = div-mul-le_self a k in le-div (a / k) b k some (omega (arith, low, l))
 
 div-less : (k a b : ℕ) → 0 < k → a + k ≤ b → a / k + 1 ≤ b / k
@@ -129,7 +129,7 @@ left_words white gone test (o ∷ os) =
           ]
     ]
 
-left_fewer : (white gone : ℕ → Bool) (kept : List Object) → length (left_objects white gone kept) ≤ length kept
+pub left_fewer : (white gone : ℕ → Bool) (kept : List Object) → length (left_objects white gone kept) ≤ length kept
 left_fewer white gone [] = omega arith
 left_fewer white gone (o ∷ os) =
     let more = left_fewer white gone os in let long : length (o ∷ os) ≡ suc (length os) = refl in
@@ -138,7 +138,7 @@ left_fewer white gone (o ∷ os) =
       | inr e ↦ (let left : length (left_objects white gone (o ∷ os)) ≡ suc (length (left_objects white gone os)) = rw e refl in omega (arith, more, long, left))
     ]
 
-left_all : (white gone : ℕ → Bool) (kept : List Object) → kept_words (left_objects white gone kept) ≤ kept_words kept
+pub left_all : (white gone : ℕ → Bool) (kept : List Object) → kept_words (left_objects white gone kept) ≤ kept_words kept
 left_all white gone [] = omega arith
 left_all white gone (o ∷ os) =
     let more = left_all white gone os in let all = sum_by-cons words_of o os in
