@@ -1,5 +1,5 @@
 -- Cycles from blocks, and whole collections from cycles.
-use Rattle.std.proofs.Common.{◌≡◌, ◌≢◌, ℕ, ◌+◌, ◌-◌, ◌*◌, ◌<◌, ◌≤◌, List, [], ◌∷◌, ◌++◌, map, length, append_assoc, refl, sym, ap, ◌∙◌, subst, arith}
+use Rattle.std.proofs.Common.{◌≡◌, ◌≢◌, ℕ, ◌+◌, ◌-◌, ◌<◌, ◌≤◌, List, [], ◌∷◌, ◌++◌, map, length, append_assoc, refl, sym, ap, ◌∙◌, subst, arith}
 use Rattle.std.proofs.lemmas.List.{length-map}
 use Rattle.text_model.specs.declared.line.Line.{Line}
 use Rattle.text_model.specs.declared.line.Phase.{Phase}
@@ -15,6 +15,7 @@ use Rattle.heap_parts.specs.Places.{RiseBetween}
 use Rattle.heap_parts.specs.StandsFor.{PartsStandFor}
 use Rattle.collect_laws.specs.Events.{Undergoes}
 use Rattle.collect_laws.specs.Collections.{CollectsStep, CollectsCycle, CollectsAll}
+use Rattle.collect_laws.proofs.TestLaws.{counted_in}
 use Rattle.collect_laws.proofs.BlockLaws.{as_event, in_turn}
 use Rattle.collect_laws.proofs.StepCount.{steps_in, steps_append, block_steps}
 use Rattle.collect_laws.proofs.StepsAhead.{steps_ahead, block_ahead, ahead_most, ahead_some}
@@ -23,7 +24,7 @@ use Rattle.collect_laws.proofs.StepsAhead.{steps_ahead, block_ahead, ahead_most,
 pub record SoFar (setup : Setup) (store : Store) (lines : List Line) (mid : Store) : Type 0 where
   pub ends : mid.phase ≡ Scanning → Cycle setup.settings store lines mid
   pub goes_on : mid.phase ≢ Scanning → (rest : List Line) (new : Store) → Cycle setup.settings mid rest new → Cycle setup.settings store (lines ++ rest) new
-  pub few : mid.phase ≢ Scanning → steps_in lines + steps_ahead mid ≤ steps_ahead store
+  pub few : mid.phase ≢ Scanning → steps_in lines + steps_ahead setup.settings mid ≤ steps_ahead setup.settings store
 
 -- what a store in which blocks come has
 record CanStep (setup : Setup) (store : Store) : Type 0 where
@@ -56,7 +57,7 @@ one-more {setup = setup} {store = store} {mid = mid} {new = new} {lines = lines}
       subst (λ (ls : List Line). Cycle setup.settings store ls later) (sym (append_assoc lines more rest)) (far.goes_on unended (more ++ rest) later (More block on cycle));
   few = λ on.
       let before = far.few unended in
-      let less = block_ahead setup.settings can.sweeps can.visits mid more new can.sound can.few block on in
+      let less = block_ahead setup.settings can.sweeps can.visits mid more new block on in
       let one = block_steps setup.settings mid more new block in let both = steps_append lines more in omega (arith, before, less, one, both);
 }
 
@@ -66,7 +67,7 @@ so_far_begins u = as_event (λ store lines later s t block. record {
   ends = λ e. Last block e;
   goes_on = λ on rest new cycle. More block on cycle;
   few = λ on.
-      let can = can_step s in let less = block_ahead _ can.sweeps can.visits store lines later can.sound can.few block on in
+      let can = can_step s in let less = block_ahead _ can.sweeps can.visits store lines later block on in
       let one = block_steps _ store lines later block in omega (arith, less, one);
 }) u
 
@@ -80,23 +81,32 @@ so_far_goes u on block = in_turn (λ store first half second later s t v far mor
 pub so_far_ends : {start now : HeapParts} {before after : List Line} → Undergoes SoFar start now before after → now.phase ≡ Scanning → CollectsCycle start now before after
 so_far_ends u e = as_event (λ store lines later s t far. far.ends (t.counts.phase_is ∙ e)) u
 
--- The measure of the loop over blocks: as many steps as any cycle has, less those of which lines tell since its start.
+-- The measure of the loop over blocks: as many steps as a cycle can have, less those of which lines tell since its start.
 abbrev pub blocks_left : HeapParts → List Line → List Line → ℕ
-blocks_left start before now = 2 * start.next + 5 + steps_in before - steps_in now
+blocks_left start before now = start.unsettled + start.old_words + start.next + 4 + steps_in before - steps_in now
 
 pub blocks_fall : {start now new : HeapParts} {before between after : List Line} → Undergoes SoFar start now before between → now.phase ≢ Scanning
     → (store : Store) → PartsStandFor start store → CollectsStep now new between after → blocks_left start before after < blocks_left start before between
 blocks_fall {start = start} {before = before} {between = between} {after = after} u on store s block =
-    let l = u.leads store s in let can = can_step s in let mid = can_step l.2 in
+    let l = u.leads store s in let can = can_step s in
     let unended : l.0.phase ≢ Scanning = λ e. on (sym l.2.counts.phase_is ∙ e) in
     let m = block.leads l.0 l.2 in
-    let few = l.1.few unended in let some = ahead_some l.0 unended in
-    let most = ahead_most start.setup.settings can.sweeps can.visits store can.sound can.few in
+    let few = l.1.few unended in let some = ahead_some start.setup.settings l.0 in
+    let most = ahead_most start.setup.settings store can.sound can.few in let counted = counted_in s in
     let next = s.counts.next_is in
     let told : steps_in between ≡ steps_in before + steps_in u.lines = ap steps_in u.appended ∙ steps_append before u.lines in
     let more : steps_in after ≡ steps_in between + steps_in block.lines = ap steps_in block.appended ∙ steps_append between block.lines in
     let one = block_steps _ l.0 block.lines m.0 m.1 in
-    omega (arith, few, some, most, next, told, more, one)
+    omega (arith, few, some, most, counted, next, told, more, one)
+
+-- A cycle has no more steps than may come where it begins.
+pub cycle_steps : (settings : Settings) (old : Store) (lines : List Line) (new : Store) → 0 < settings.sweep → 0 < settings.increment → Cycle settings old lines new
+    → steps_in lines ≤ steps_ahead settings old
+cycle_steps settings old lines new sweeps visits (Last block ends) =
+    let one = block_steps settings old lines new block in let some = ahead_some settings old in omega (arith, one, some)
+cycle_steps settings old _ new sweeps visits (More {mid = mid} {lines = first} {rest = rest} block goes_on cycle) =
+    let one = block_steps settings old first mid block in let less = block_ahead settings sweeps visits old first mid block goes_on in
+    let more = cycle_steps settings mid rest new sweeps visits cycle in let both = steps_append first rest in omega (arith, one, less, more, both)
 
 -- A whole collection from the phase Scanning is a cycle.
 scanning-cycle : (phase : Phase) {settings : Settings} {store later : Store} {lines : List Line} → phase ≡ Scanning → Cycle settings store lines later → CollectFrom phase settings store lines later

@@ -3,6 +3,7 @@ pub mod BlockLaws
 pub mod StepCount
 pub mod StepsAhead
 pub mod CycleLaws
+pub mod Shrinks
 pub mod Cleared
 pub mod RoomLaws
 pub mod CommandLaws
