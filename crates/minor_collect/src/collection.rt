@@ -1,6 +1,6 @@
 //! A minor collection, whole.
 
-ghost use Rattle.std.specs.Prelude.{◌≡◌, ◌++◌, [], ◌∷◌, length, map, OnOk, IfOk};
+ghost use Rattle.std.specs.Prelude.{◌≡◌, ◌+◌, ◌++◌, ◌<◌, ◌^◌, [], ◌∷◌, length, map, OnOk, IfOk};
 ghost use Rattle.object_model.specs.Sets.{is_in};
 ghost use Rattle.store_model.specs.Links.{cut_links, link_ends};
 ghost use Rattle.text_model.specs.declared.line.Line.TheVariants.{MinorDone, Cleared, Destroyed, LinkCut};
@@ -8,6 +8,8 @@ ghost use Rattle.store_model.specs.Store.{Store};
 ghost use Rattle.heap_parts.specs.StandsFor.{PartsStandButYoung};
 ghost use Rattle.text_model.specs.declared.line.Phase.TheVariants.{Marking};
 ghost use Rattle.minor_collect.specs.Calls.{CanBegin, Survived, Stage, Spot, Middle};
+ghost use Rattle.heap_parts.specs.Collects.{CollectsMinor};
+ghost use Rattle.minor_collect.specs.Minor.{CanCollect, Took, Separates, Closes};
 ghost use Rattle.minor_collect.specs.Drops.{CanGiveThen, Drops};
 ghost use Rattle.minor_collect.specs.WeakPass.{CanPassWeaks, PassesWeaks};
 ghost use Rattle.minor_collect.specs.Remade.{CanRemake, Remakes};
@@ -46,6 +48,38 @@ pub fn minor(
     events: &mut Vec<Line>,
 ) -> Result<MinorEnd, AllocError> {
     lists.clear();
+    separate(parts, lists)?;
+    let vanished = drop_vanished(parts, lists, events)?;
+    let moving = &lists.moving;
+    close_nursery(
+        parts,
+        moving.words,
+        &mut lists.places,
+        &mut lists.pinned,
+    )?;
+    Ok(MinorEnd {
+        settled: moving.objects,
+        settled_words: moving.words,
+        vanished,
+    })
+}
+
+/// Moves what survives out of the nursery, lists what is gone, and queues for marking what written objects refer to. The lists
+/// are empty before. The error is out of memory.
+fn separate(parts: &mut Parts, lists: &mut Lists) -> Result<(), AllocError>
+    requires begin { CanBegin parts.old lists.old.moving }
+    requires spans { lists.old.spans.items ≡ [] }
+    requires registered { lists.old.registered.items ≡ [] }
+    requires forced { lists.old.forced.items ≡ [] }
+    requires dead { lists.old.dead.items ≡ [] }
+    requires destroyed { lists.old.destroyed.items ≡ [] }
+    requires written { lists.old.written.items ≡ [] }
+    ensures separates { OnOk result (Separates parts.old parts.new lists.new.moving lists.new.dead.items lists.new.destroyed.items) }
+    ensures cleared { lists.new.cleared.items ≡ lists.old.cleared.items }
+    ensures ends { lists.new.ends.items ≡ lists.old.ends.items }
+    ensures places { lists.new.places.items ≡ lists.old.places.items }
+    ensures pinned { lists.new.pinned.items ≡ lists.old.pinned.items }
+{
     move_survivors(
         parts,
         &mut lists.moving,
@@ -54,17 +88,7 @@ pub fn minor(
         &mut lists.forced,
     )?;
     find_vanished(parts, &mut lists.dead, &mut lists.destroyed)?;
-    queue_visited(parts, &lists.spans, &mut lists.written)?;
-    let vanished = drop_vanished(parts, lists, events)?;
-    remake_nursery(parts, &mut lists.places, &mut lists.pinned)?;
-    let moving = &lists.moving;
-    parts.old_words += moving.words;
-    parts.fresh = 0;
-    Ok(MinorEnd {
-        settled: moving.objects,
-        settled_words: moving.words,
-        vanished,
-    })
+    queue_visited(parts, &lists.spans, &mut lists.written)
 }
 
 /// Moves all that survives and is not pinned out of the nursery. The lists are empty before. The error is out of memory.
@@ -79,7 +103,8 @@ fn move_survivors(
     requires spans { spans.old.items ≡ [] }
     requires registered { registered.old.items ≡ [] }
     requires forced { forced.old.items ≡ [] }
-    ensures { (store : Store) (stands : PartsStandButYoung parts.old store) → OnOk result (Survived (record { start = parts.old; store = store; stands = stands }) parts.new moving.new) }
+    ensures survived { (store : Store) (stands : PartsStandButYoung parts.old store) → OnOk result (Survived (record { start = parts.old; store = store; stands = stands }) parts.new moving.new) }
+    ensures took { OnOk result (Took parts.old spans.new.items) }
 {
     take_all(parts, spans)?;
     follow_roots(parts, moving, registered, forced)?;
@@ -187,5 +212,25 @@ fn remake_nursery(
     parts.unsettled = pinned_ranges(parts, places, pinned)?;
     parts.nursery.reset(pinned);
     parts.gapped = !parts.pins.is_empty();
+    Ok(())
+}
+
+/// Makes the nursery anew, and adds the words that moved to those outside it, where nothing was born since. The lists are scratch,
+/// and empty before. The error is out of memory.
+fn close_nursery(
+    parts: &mut Parts,
+    words: u64,
+    places: &mut Vec<u64>,
+    pinned: &mut Vec<(u64, u64)>,
+) -> Result<(), AllocError>
+    requires can { CanRemake parts.old }
+    requires room { parts.old.old_words + words < 2 ^ 64 }
+    requires no_places { places.old.items ≡ [] }
+    requires none { pinned.old.items ≡ [] }
+    ensures { OnOk result (Closes parts.old parts.new words) }
+{
+    remake_nursery(parts, places, pinned)?;
+    parts.old_words += words;
+    parts.fresh = 0;
     Ok(())
 }
