@@ -1,36 +1,23 @@
-use Rattle.std.proofs.Common.{rules, ◌≡◌, ◌+◌, ◌++◌, ◌<◌, ◌^◌, [], ◌∷◌, length, map, OnOk, IfOk, ℕ, ◌-◌, ◌*◌, ◌≤◌, ◌/◌, ◌%◌, Bool, true, false, nat_eq, nat_lt, List, slice_index_or, slice_set, bit_and, bit_or, Fits, w8, w32, w64, Bor, MutBor}
-use Rattle.object_model.specs.Sets.{is_in}
-use Rattle.store_model.specs.Links.{cut_links, link_ends}
-use Rattle.text_model.specs.declared.line.Line.TheVariants.{MinorDone, Cleared, Destroyed, LinkCut}
-use Rattle.store_model.specs.Store.{Store}
-use Rattle.heap_parts.specs.StandsFor.{PartsStandButYoung}
-use Rattle.text_model.specs.declared.line.Phase.TheVariants.{Marking}
-use Rattle.minor_collect.specs.Calls.{CanBegin, Survived, Stage, Spot, Middle}
-use Rattle.heap_parts.specs.Collects.{CollectsMinor}
-use Rattle.minor_collect.specs.Minor.{CanCollect, Took, Separates, Closes}
-use Rattle.minor_collect.specs.Drops.{CanGiveThen, Drops}
-use Rattle.minor_collect.specs.WeakPass.{CanPassWeaks, PassesWeaks}
-use Rattle.minor_collect.specs.Remade.{CanRemake, Remakes}
-use Rattle.minor_collect.specs.Vanished.{IsMidway, FindsVanished}
-use Rattle.minor_collect.specs.Queues.{Queues, CanQueueSpans, visited_places}
+use Rattle.std.proofs.Common.{◌≡◌, ◌+◌, ◌<◌, ◌^◌, ℕ, ap, sym, subst}
+use Rattle.minor_collect.specs.declared.work.Moving.{Moving}
+use Rattle.minor_collect.specs.Drops.{CanGiveThen}
+use Rattle.minor_collect.proofs.MinorSteps.{can_begin, can_pass_weaks, room_for_moved}
 use Rattle.minor_collect.proofs.collection.minor.Goals as goal
 
--- src/collection.rt:51:5
 pub separate-requires-clause-begin : goal.separate-requires-clause-begin
-separate-requires-clause-begin c = ?
+separate-requires-clause-begin c = can_begin c.requires c.clear.ensures.todo c.clear.ensures.objects c.clear.ensures.words
 
--- src/collection.rt:52:20
 pub drop_vanished-requires-clause-weaks : goal.drop_vanished-requires-clause-weaks
-drop_vanished-requires-clause-weaks c = ?
+drop_vanished-requires-clause-weaks c = can_pass_weaks c.requires c.in_ok-separate.ensures.separates
 
--- src/collection.rt:52:20
 pub drop_vanished-requires-clause-gives : goal.drop_vanished-requires-clause-gives
 drop_vanished-requires-clause-gives c = ?
 
--- src/collection.rt:54:5
 pub close_nursery-requires-clause-can : goal.close_nursery-requires-clause-can
 close_nursery-requires-clause-can c = ?
 
--- src/collection.rt:54:5
 pub close_nursery-requires-clause-room : goal.close_nursery-requires-clause-room
-close_nursery-requires-clause-room c = ?
+close_nursery-requires-clause-room c =
+    let gives : CanGiveThen c.separate.new.parts c.separate.new.lists.dead.items c.separate.new.lists.cleared.items = ? in
+    subst (λ (moving : Moving). c.drop_vanished.new.parts.old_words + moving.words < 2 ^ 64) (sym c.in_ok-vanished.ensures.moving)
+    (room_for_moved c.requires c.in_ok-separate.ensures.separates gives c.in_ok-vanished.ensures.drops)

@@ -1,28 +1,29 @@
-use Rattle.std.proofs.Common.{rules, ◌≡◌, ◌+◌, ◌++◌, ◌<◌, ◌^◌, [], ◌∷◌, length, map, OnOk, IfOk, ℕ, ◌-◌, ◌*◌, ◌≤◌, ◌/◌, ◌%◌, Bool, true, false, nat_eq, nat_lt, List, slice_index_or, slice_set, bit_and, bit_or, Fits, w8, w32, w64, Bor, MutBor}
-use Rattle.object_model.specs.Sets.{is_in}
-use Rattle.store_model.specs.Links.{cut_links, link_ends}
-use Rattle.text_model.specs.declared.line.Line.TheVariants.{MinorDone, Cleared, Destroyed, LinkCut}
-use Rattle.store_model.specs.Store.{Store}
-use Rattle.heap_parts.specs.StandsFor.{PartsStandButYoung}
+use Rattle.std.proofs.Common.{◌≡◌, List, sym, subst}
 use Rattle.text_model.specs.declared.line.Phase.TheVariants.{Marking}
-use Rattle.minor_collect.specs.Calls.{CanBegin, Survived, Stage, Spot, Middle}
-use Rattle.heap_parts.specs.Collects.{CollectsMinor}
-use Rattle.minor_collect.specs.Minor.{CanCollect, Took, Separates, Closes}
-use Rattle.minor_collect.specs.Drops.{CanGiveThen, Drops}
-use Rattle.minor_collect.specs.WeakPass.{CanPassWeaks, PassesWeaks}
-use Rattle.minor_collect.specs.Remade.{CanRemake, Remakes}
-use Rattle.minor_collect.specs.Vanished.{IsMidway, FindsVanished}
-use Rattle.minor_collect.specs.Queues.{Queues, CanQueueSpans, visited_places}
+use Rattle.remember_cards.specs.declared.Span.{Span}
+use Rattle.minor_collect.specs.Minor.{Took}
+use Rattle.minor_collect.specs.Queues.{CanQueueSpans, Queues, visited_places}
+use Rattle.minor_collect.proofs.MinorSteps.{is_midway, can_queue}
+use Rattle.minor_collect.proofs.OnOkLaws.{on_ok, where_ok}
 use Rattle.minor_collect.proofs.collection.separate.Goals as goal
 
--- src/collection.rt:90:5
 pub find_vanished-requires-clause-midway : goal.find_vanished-requires-clause-midway
-find_vanished-requires-clause-midway c = ?
+find_vanished-requires-clause-midway c = is_midway c.requires.begin c.in_ok-move_survivors.ensures.survived
 
--- src/collection.rt:91:5
 pub queue_visited-requires-clause-there : goal.queue_visited-requires-clause-there
-queue_visited-requires-clause-there c = ?
+queue_visited-requires-clause-there c = λ goes_on.
+    subst (CanQueueSpans c.move_survivors.new.parts) (sym c.deref.ensures.value) (can_queue c.requires.begin c.in_ok-move_survivors.ensures.survived c.in_ok-move_survivors.ensures.took)
 
--- src/collection.rt:69:1
 pub returns-clause-separates : goal.returns-clause-separates
-returns-clause-separates c = ?
+returns-clause-separates c =
+    on_ok c.queue_visited.result
+    (λ queues. record {
+      moved = c.move_survivors.new.parts;
+      spans = c.deref.result.now;
+      took = subst (Took c.args.parts.now) (sym c.deref.ensures.value) c.in_ok-move_survivors.ensures.took;
+      survived = c.in_ok-move_survivors.ensures.survived;
+      finds = c.in_ok-find_vanished.ensures;
+      queues = queues;
+      quiet = c.queue_visited.ensures.other;
+    })
+    (where_ok (c.move_survivors.new.parts.phase ≡ Marking) (Queues c.move_survivors.new.parts c.queue_visited.new.parts (visited_places c.move_survivors.new.parts c.deref.result.now)) c.queue_visited.result c.queue_visited.ensures.marking)
