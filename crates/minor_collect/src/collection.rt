@@ -46,7 +46,11 @@ pub fn minor(
     parts: &mut Parts,
     lists: &mut Lists,
     events: &mut Vec<Line>,
-) -> Result<MinorEnd, AllocError> {
+) -> Result<MinorEnd, AllocError>
+    requires can { CanCollect parts.old }
+    ensures collects { OnOk result (CollectsMinor parts.old parts.new events.old.items events.new.items) }
+    ensures fresh { OnOk result (parts.new.fresh ≡ 0) }
+{
     lists.clear();
     separate(parts, lists)?;
     let vanished = drop_vanished(parts, lists, events)?;

@@ -5,10 +5,10 @@ use Rattle.minor_collect.proofs.MinorSteps.{can_begin, can_pass_weaks, room_for_
 use Rattle.minor_collect.proofs.collection.minor.Goals as goal
 
 pub separate-requires-clause-begin : goal.separate-requires-clause-begin
-separate-requires-clause-begin c = can_begin c.requires c.clear.ensures.todo c.clear.ensures.objects c.clear.ensures.words
+separate-requires-clause-begin c = can_begin c.requires.can c.clear.ensures.todo c.clear.ensures.objects c.clear.ensures.words
 
 pub drop_vanished-requires-clause-weaks : goal.drop_vanished-requires-clause-weaks
-drop_vanished-requires-clause-weaks c = can_pass_weaks c.requires c.in_ok-separate.ensures.separates
+drop_vanished-requires-clause-weaks c = can_pass_weaks c.requires.can c.in_ok-separate.ensures.separates
 
 pub drop_vanished-requires-clause-gives : goal.drop_vanished-requires-clause-gives
 drop_vanished-requires-clause-gives c = ?
@@ -20,4 +20,4 @@ pub close_nursery-requires-clause-room : goal.close_nursery-requires-clause-room
 close_nursery-requires-clause-room c =
     let gives : CanGiveThen c.separate.new.parts c.separate.new.lists.dead.items c.separate.new.lists.cleared.items = ? in
     subst (λ (moving : Moving). c.drop_vanished.new.parts.old_words + moving.words < 2 ^ 64) (sym c.in_ok-vanished.ensures.moving)
-    (room_for_moved c.requires c.in_ok-separate.ensures.separates gives c.in_ok-vanished.ensures.drops)
+    (room_for_moved c.requires.can c.in_ok-separate.ensures.separates gives c.in_ok-vanished.ensures.drops)
