@@ -159,6 +159,7 @@ fn drop_vanished(
     requires gives { CanGiveThen parts.old lists.old.dead.items lists.old.cleared.items }
     ensures drops { OnOk result (Drops parts.old parts.new lists.old.dead.items lists.old.cleared.items lists.new.cleared.items) }
     ensures lines { OnOk result (events.new.items ≡ (((events.old.items ++ MinorDone lists.old.moving.objects (length lists.old.dead.items) ∷ []) ++ map (λ birth. Cleared birth) lists.new.cleared.items) ++ map (λ birth. Destroyed birth) lists.old.destroyed.items) ++ map (λ end. LinkCut end) lists.new.ends.items) }
+    ensures ends { OnOk result (lists.new.ends.items ≡ lists.old.ends.items ++ link_ends (λ object. is_in object lists.old.dead.items) parts.old.links.structs) }
     ensures moving { lists.new.moving ≡ lists.old.moving }
     ensures places { lists.new.places.items ≡ lists.old.places.items }
     ensures pinned { lists.new.pinned.items ≡ lists.old.pinned.items }
