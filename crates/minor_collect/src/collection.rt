@@ -9,6 +9,7 @@ ghost use Rattle.heap_parts.specs.StandsFor.{PartsStandButYoung};
 ghost use Rattle.text_model.specs.declared.line.Phase.TheVariants.{Marking};
 ghost use Rattle.minor_collect.specs.Calls.{CanBegin, Survived, Stage, Spot, Middle};
 ghost use Rattle.heap_parts.specs.Collects.{CollectsMinor};
+ghost use Rattle.minor_collect.specs.Counts.{CountsSurvivors};
 ghost use Rattle.minor_collect.specs.Minor.{CanCollect, Took, Separates, Closes};
 ghost use Rattle.minor_collect.specs.Drops.{CanGiveThen, Drops};
 ghost use Rattle.minor_collect.specs.WeakPass.{CanPassWeaks, PassesWeaks};
@@ -49,6 +50,7 @@ pub fn minor(
 ) -> Result<MinorEnd, AllocError>
     requires can { CanCollect parts.old }
     ensures collects { OnOk result (CollectsMinor parts.old parts.new events.old.items events.new.items) }
+    ensures counts { (store : Store) (stands : PartsStandButYoung parts.old store) → IfOk result (CountsSurvivors (record { start = parts.old; store = store; stands = stands })) }
     ensures fresh { OnOk result (parts.new.fresh ≡ 0) }
 {
     lists.clear();

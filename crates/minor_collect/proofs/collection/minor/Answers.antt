@@ -2,6 +2,7 @@ use Rattle.std.proofs.Common.{◌≡◌, ◌+◌, ◌<◌, ◌^◌, ℕ, ap, sym
 use Rattle.minor_collect.specs.declared.work.Moving.{Moving}
 use Rattle.minor_collect.specs.Drops.{CanGiveThen}
 use Rattle.minor_collect.proofs.MinorSteps.{can_begin, can_pass_weaks, room_for_moved}
+use Rattle.minor_collect.proofs.SurvivorCounts.{counts_told}
 use Rattle.minor_collect.proofs.collection.minor.Goals as goal
 
 pub separate-requires-clause-begin : goal.separate-requires-clause-begin
@@ -21,3 +22,9 @@ close_nursery-requires-clause-room c =
     let gives : CanGiveThen c.separate.new.parts c.separate.new.lists.dead.items c.separate.new.lists.cleared.items = ? in
     subst (λ (moving : Moving). c.drop_vanished.new.parts.old_words + moving.words < 2 ^ 64) (sym c.in_ok-vanished.ensures.moving)
     (room_for_moved c.requires.can c.in_ok-separate.ensures.separates gives c.in_ok-vanished.ensures.drops)
+
+pub returns-clause-collects : goal.returns-clause-collects
+returns-clause-collects c = ?
+
+pub returns-clause-counts : goal.returns-clause-counts
+returns-clause-counts c = λ store stands. counts_told c.in_ok-separate.ensures.separates c.in_ok-vanished.ensures.moving c.in_ok-vanished.ensures.vanished store stands
