@@ -28,21 +28,23 @@ use remember_cards::Span;
 use std::alloc::AllocError;
 use text_model::{Line, LinkEnd, Phase};
 
-/// How a minor collection ended.
+/// How a minor collection ended: what survived and was not pinned is settled, and what did not survive vanished.
 #[derive(Clone, Copy, PartialEq, Eq, Debug)]
 pub struct MinorEnd {
     /// How many objects moved out of the nursery.
     pub settled: u64,
-    /// The words of those.
+    /// The words of those, each of 8 bytes.
     pub settled_words: u64,
-    /// How many objects are gone.
+    /// How many objects of the nursery are gone.
     pub vanished: u64,
 }
 
 /// A minor collection. The objects of the nursery that roots, registered objects, P links or remembered references lead to
-/// move out of it, but for the pinned ones, and the others are gone. The lines of that are appended. The lists are scratch.
+/// move out of it, but for the pinned ones, which stay where they are; all others are gone. Targets of weak objects follow, or are
+/// cleared where they are gone. These are PyPy's rules; the lines of all that, which are appended, are this project's own. What
+/// the lists hold before does not matter. The cost is that of the words in the nursery, the slots and what is remembered.
 ///
-/// The error is out of memory, and the parts are spent then.
+/// The error is out of memory: the parts are spent then, and some of the lines may be appended.
 pub fn minor(
     parts: &mut Parts,
     lists: &mut Lists,

@@ -1,6 +1,5 @@
-use Rattle.std.proofs.Common.{◌≡◌, List, sym, subst}
+use Rattle.std.proofs.Common.{◌≡◌, sym, subst}
 use Rattle.text_model.specs.declared.line.Phase.TheVariants.{Marking}
-use Rattle.remember_cards.specs.declared.Span.{Span}
 use Rattle.minor_collect.specs.Minor.{Took}
 use Rattle.minor_collect.specs.Queues.{CanQueueSpans, Queues, visited_places}
 use Rattle.minor_collect.proofs.MinorSteps.{is_midway, can_queue}
