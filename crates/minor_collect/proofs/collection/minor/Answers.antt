@@ -1,7 +1,6 @@
 use Rattle.std.proofs.Common.{◌≡◌, ◌+◌, ◌<◌, ◌^◌, ℕ, ap, sym, subst}
 use Rattle.minor_collect.specs.declared.work.Moving.{Moving}
-use Rattle.minor_collect.specs.Drops.{CanGiveThen}
-use Rattle.minor_collect.proofs.MinorSteps.{can_begin, can_pass_weaks, room_for_moved}
+use Rattle.minor_collect.proofs.MinorSteps.{can_begin, can_give, can_pass_weaks, room_for_moved}
 use Rattle.minor_collect.proofs.SurvivorCounts.{counts_told}
 use Rattle.minor_collect.proofs.collection.minor.Goals as goal
 
@@ -12,16 +11,15 @@ pub drop_vanished-requires-clause-weaks : goal.drop_vanished-requires-clause-wea
 drop_vanished-requires-clause-weaks c = can_pass_weaks c.requires.can c.in_ok-separate.ensures.separates
 
 pub drop_vanished-requires-clause-gives : goal.drop_vanished-requires-clause-gives
-drop_vanished-requires-clause-gives c = ?
+drop_vanished-requires-clause-gives c = can_give _ c.requires.can c.in_ok-separate.ensures.separates
 
 pub close_nursery-requires-clause-can : goal.close_nursery-requires-clause-can
 close_nursery-requires-clause-can c = ?
 
 pub close_nursery-requires-clause-room : goal.close_nursery-requires-clause-room
 close_nursery-requires-clause-room c =
-    let gives : CanGiveThen c.separate.new.parts c.separate.new.lists.dead.items c.separate.new.lists.cleared.items = ? in
     subst (λ (moving : Moving). c.drop_vanished.new.parts.old_words + moving.words < 2 ^ 64) (sym c.in_ok-vanished.ensures.moving)
-    (room_for_moved c.requires.can c.in_ok-separate.ensures.separates gives c.in_ok-vanished.ensures.drops)
+    (room_for_moved c.requires.can c.in_ok-separate.ensures.separates (can_give _ c.requires.can c.in_ok-separate.ensures.separates) c.in_ok-vanished.ensures.drops)
 
 pub returns-clause-collects : goal.returns-clause-collects
 returns-clause-collects c = ?
