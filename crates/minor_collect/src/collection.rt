@@ -59,12 +59,7 @@ pub fn minor(
     separate(parts, lists)?;
     let vanished = drop_vanished(parts, lists, events)?;
     let moving = &lists.moving;
-    close_nursery(
-        parts,
-        moving.words,
-        &mut lists.places,
-        &mut lists.pinned,
-    )?;
+    close_nursery(parts, moving.words, &mut lists.places, &mut lists.pinned)?;
     Ok(MinorEnd {
         settled: moving.objects,
         settled_words: moving.words,
