@@ -1,0 +1,59 @@
+-- What is gone was let go of: the parts then, and that the nursery can be made anew. `can_remake_dropped` is what `remake_nursery` asks for.
+use Rattle.std.proofs.Common.{◌≡◌, ℕ, ◌+◌, false, IsTrue, List, [], refl, sym, ap, ◌∙◌, subst}
+use Rattle.heap_space.specs.Places.{word_at}
+use Rattle.object_view.specs.Views.{HasObject}
+use Rattle.object_view.proofs.LayoutLaws.{SameAt, keeps-same}
+use Rattle.object_model.specs.Layout.{Layout}
+use Rattle.object_model.specs.Sets.{is_in}
+use Rattle.object_model.specs.ObjectWords.{words_at}
+use Rattle.store_model.specs.Links.{cut_links}
+use Rattle.heap_parts.specs.Parts.{HeapParts, word_in}
+use Rattle.heap_parts.specs.Places.{young_places}
+use Rattle.frame_laws.proofs.PlaceLaws.{young-is_in}
+use Rattle.minor_collect.specs.Midway.{Changing, with_changing, changing_of}
+use Rattle.minor_collect.specs.Calls.{Stage, Spot, Middle}
+use Rattle.minor_collect.specs.Drops.{Drops}
+use Rattle.minor_collect.specs.Gives.{GaveAll}
+use Rattle.minor_collect.specs.Remade.{CanRemake, words_of}
+use Rattle.minor_collect.specs.Vanished.{FindsVanished}
+use Rattle.minor_collect.specs.WeakPass.{PassesWeaks}
+use Rattle.minor_collect.proofs.GivesAfter.{giving_of, gives_some, gone_young, passed_size}
+use Rattle.minor_collect.proofs.CanRemakes.{can_remake}
+
+-- what changes, once targets follow, homes were given back and links were cut
+abbrev pub dropped_change : Changing → HeapParts → HeapParts → List ℕ → Changing
+dropped_change now passed gave dead = record now {
+  memory = gave.memory;
+  shadows = gave.shadows;
+  old_blocks = gave.old_blocks;
+  weaks = passed.weaks;
+  links = cut_links (λ object. is_in object dead) now.links;
+}
+
+module _ {stage : Stage} {now new : HeapParts} {spot : Spot} {dead destroyed told cleared : List ℕ} (middle : Middle stage now spot []) (same : now.weaks ≡ stage.start.weaks)
+    (found : FindsVanished stage spot now dead destroyed) (d : Drops now new dead told cleared) where
+  pub passes_from : PassesWeaks (with_changing stage.start (changing_of now)) d.passed told cleared
+  passes_from = subst (λ (h : HeapParts). PassesWeaks h d.passed told cleared) middle.rest d.passes
+
+  pub gave_all : GaveAll (giving_of middle.mid same passes_from) d.passed d.gave dead
+  gave_all = d.gives (giving_of middle.mid same passes_from) (gives_some middle.mid same passes_from) (gone_young middle.mid same passes_from dead found.just)
+
+  gave-rest : d.gave ≡ record (with_changing stage.start (changing_of now)) { memory = d.gave.memory; shadows = d.gave.shadows; old_blocks = d.gave.old_blocks; weaks = d.passed.weaks }
+  gave-rest = gave_all.only ∙ ap (λ (h : HeapParts). record h { memory = d.gave.memory; shadows = d.gave.shadows; old_blocks = d.gave.old_blocks }) passes_from.only
+
+  -- the parts then
+  pub dropped_rest : new ≡ with_changing stage.start (dropped_change (changing_of now) d.passed d.gave dead)
+  dropped_rest = d.links ∙ ap (λ (h : HeapParts). record h { links = cut_links (λ object. is_in object dead) h.links }) gave-rest
+
+  dropped-size : (q : ℕ) → IsTrue (is_in q (young_places spot.placing.places)) → words_at stage.start.setup.types (word_in d.gave) q ≡ words_at stage.start.setup.types (word_in now) q
+  dropped-size q t =
+      let there = (young-is_in spot.placing.places q t).0 in
+      let P : HeapParts → Type 0 = λ h. SameAt h.setup.types (word_in d.gave) (word_in d.passed) q in
+      ap (λ (l : Layout). l.words) (keeps-same stage.start.setup.types (word_in d.gave) (word_in d.passed) q (subst P gave-rest (gave_all.after.gives.keeps.objects q there))).layout_stays
+      ∙ passed_size middle.mid same passes_from q there
+
+  -- The nursery can be made anew.
+  pub can_remake_dropped : CanRemake new
+  can_remake_dropped = subst CanRemake (sym dropped_rest)
+      (can_remake middle.mid stage.stands.sound.pins (with_changing stage.start (dropped_change (changing_of now) d.passed d.gave dead)) refl refl dropped-size
+      (λ q t. let P : HeapParts → Type 0 = λ h. HasObject d.gave.memory h.setup.types q in subst P gave-rest (gave_all.after.whole q t)))
