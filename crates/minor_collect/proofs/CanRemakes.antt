@@ -1,5 +1,5 @@
--- Once what is gone was let go of, the nursery can be made anew. `can_remake` is that for parts whose pinned objects are as in some middle;
--- `can_remake_dropped` is what `remake_nursery` asks for, right after `drop_vanished`. `dropped_rest` tells the parts then.
+-- The nursery can be made anew around pinned objects that have their words of some middle. (`can_remake_dropped` of DropLaws is what
+-- `remake_nursery` asks for, right after `drop_vanished`.)
 use Rattle.std.proofs.Common.{◌≡◌, ℕ, suc, ◌+◌, ◌*◌, ◌<◌, ◌≤◌, Bool, false, IsTrue, List, [], ◌∷◌, map, length, nat_eq, refl, sym, ap, ◌∙◌, subst, inl, inr, arith}
 use Rattle.std.specs.Prelude.{sum_by, ◌^◌}
 use Rattle.std.specs.List.{IsDistinct, AllByRecursion}

@@ -17,7 +17,7 @@ use Rattle.minor_collect.specs.Gives.{GaveAll}
 use Rattle.minor_collect.specs.Remade.{CanRemake, words_of}
 use Rattle.minor_collect.specs.Vanished.{FindsVanished}
 use Rattle.minor_collect.specs.WeakPass.{PassesWeaks}
-use Rattle.minor_collect.proofs.GivesAfter.{giving_of, gives_some, gone_young, passed_size}
+use Rattle.minor_collect.proofs.GivesAfter.{IsMiddleButGray, queued_change, passes_from, giving_of, gives_some, gone_young, passed_size}
 use Rattle.minor_collect.proofs.CanRemakes.{can_remake}
 
 -- what changes, once targets follow, homes were given back and links were cut
@@ -30,30 +30,30 @@ dropped_change now passed gave dead = record now {
   links = cut_links (λ object. is_in object dead) now.links;
 }
 
-module _ {stage : Stage} {now new : HeapParts} {spot : Spot} {dead destroyed told cleared : List ℕ} (middle : Middle stage now spot []) (same : now.weaks ≡ stage.start.weaks)
-    (found : FindsVanished stage spot now dead destroyed) (d : Drops now new dead told cleared) where
-  pub passes_from : PassesWeaks (with_changing stage.start (changing_of now)) d.passed told cleared
-  passes_from = subst (λ (h : HeapParts). PassesWeaks h d.passed told cleared) middle.rest d.passes
+module _ {stage : Stage} {before now new : HeapParts} {spot : Spot} {dead destroyed told cleared : List ℕ} (m : IsMiddleButGray stage before now spot)
+    (found : FindsVanished stage spot before dead destroyed) (d : Drops now new dead told cleared) where
+  pub weaks_passed : PassesWeaks (with_changing stage.start (queued_change m)) d.passed told cleared
+  weaks_passed = passes_from m d.passes
 
-  pub gave_all : GaveAll (giving_of middle.mid same passes_from) d.passed d.gave dead
-  gave_all = d.gives (giving_of middle.mid same passes_from) (gives_some middle.mid same passes_from) (gone_young middle.mid same passes_from dead found.just)
+  pub gave_all : GaveAll (giving_of m.middle.mid m.weaks now.gray weaks_passed) d.passed d.gave dead
+  gave_all = d.gives (giving_of m.middle.mid m.weaks now.gray weaks_passed) (gives_some m.middle.mid m.weaks now.gray weaks_passed) (gone_young m.middle.mid m.weaks now.gray weaks_passed dead found.just)
 
-  gave-rest : d.gave ≡ record (with_changing stage.start (changing_of now)) { memory = d.gave.memory; shadows = d.gave.shadows; old_blocks = d.gave.old_blocks; weaks = d.passed.weaks }
-  gave-rest = gave_all.only ∙ ap (λ (h : HeapParts). record h { memory = d.gave.memory; shadows = d.gave.shadows; old_blocks = d.gave.old_blocks }) passes_from.only
+  gave-rest : d.gave ≡ record (with_changing stage.start (queued_change m)) { memory = d.gave.memory; shadows = d.gave.shadows; old_blocks = d.gave.old_blocks; weaks = d.passed.weaks }
+  gave-rest = gave_all.only ∙ ap (λ (h : HeapParts). record h { memory = d.gave.memory; shadows = d.gave.shadows; old_blocks = d.gave.old_blocks }) weaks_passed.only
 
   -- the parts then
-  pub dropped_rest : new ≡ with_changing stage.start (dropped_change (changing_of now) d.passed d.gave dead)
+  pub dropped_rest : new ≡ with_changing stage.start (dropped_change (queued_change m) d.passed d.gave dead)
   dropped_rest = d.links ∙ ap (λ (h : HeapParts). record h { links = cut_links (λ object. is_in object dead) h.links }) gave-rest
 
-  dropped-size : (q : ℕ) → IsTrue (is_in q (young_places spot.placing.places)) → words_at stage.start.setup.types (word_in d.gave) q ≡ words_at stage.start.setup.types (word_in now) q
+  dropped-size : (q : ℕ) → IsTrue (is_in q (young_places spot.placing.places)) → words_at stage.start.setup.types (word_in d.gave) q ≡ words_at stage.start.setup.types (word_in before) q
   dropped-size q t =
       let there = (young-is_in spot.placing.places q t).0 in
       let P : HeapParts → Type 0 = λ h. SameAt h.setup.types (word_in d.gave) (word_in d.passed) q in
       ap (λ (l : Layout). l.words) (keeps-same stage.start.setup.types (word_in d.gave) (word_in d.passed) q (subst P gave-rest (gave_all.after.gives.keeps.objects q there))).layout_stays
-      ∙ passed_size middle.mid same passes_from q there
+      ∙ passed_size m.middle.mid m.weaks now.gray weaks_passed q there
 
   -- The nursery can be made anew.
   pub can_remake_dropped : CanRemake new
   can_remake_dropped = subst CanRemake (sym dropped_rest)
-      (can_remake middle.mid stage.stands.sound.pins (with_changing stage.start (dropped_change (changing_of now) d.passed d.gave dead)) refl refl dropped-size
+      (can_remake m.middle.mid stage.stands.sound.pins (with_changing stage.start (dropped_change (queued_change m) d.passed d.gave dead)) refl refl dropped-size
       (λ q t. let P : HeapParts → Type 0 = λ h. HasObject d.gave.memory h.setup.types q in subst P gave-rest (gave_all.after.whole q t)))

@@ -1,5 +1,6 @@
 -- After the pass over the weak objects the homes of what is gone can be given back. `gives_some` is that fact for the parts after the
--- pass; `can_give_then` is what `drop_vanished` asks for, from a middle in which what is gone is listed.
+-- pass. `can_give_then` is what `drop_vanished` asks for: from the middle in which what is gone was listed, where only what is gray changed
+-- since (`IsMiddleButGray`: a middle has what was gray as the collection began, so that queueing for marking ends it).
 use Rattle.std.proofs.Common.{◌≡◌, ◌≢◌, ℕ, ◌+◌, ◌<◌, ◌≤◌, ◌⊎◌, Bool, true, false, IsTrue, IsSome, List, [], ◌∷◌, ◌++◌, map, refl, sym, ap, ◌∙◌, subst, inl, inr, arith}
 use Rattle.std.specs.List.{filter}
 use Rattle.std.proofs.lemmas.Bool.{cases_Bool}
@@ -40,7 +41,8 @@ use Rattle.minor_collect.proofs.SameMembers.{names_differ}
 
 module _ {start : HeapParts} {store : Store} {remembered : ℕ → ℕ → Bool} {now : Changing} {todo held left : List ℕ} {owes : Owes} {moved : Moved}
     {placing : Placing} (mid : Midway start store remembered now placing todo held left owes moved [])
-    {passed : HeapParts} {told_old told_new : List ℕ} (same : now.weaks ≡ start.weaks) (passes : PassesWeaks (with_changing start now) passed told_old told_new) where
+    {passed : HeapParts} {told_old told_new : List ℕ} (same : now.weaks ≡ start.weaks) (gray : List ℕ)
+    (passes : PassesWeaks (with_changing start (record now { gray = gray })) passed told_old told_new) where
   abbrev live : List Extent
   live = blocks_of start.setup.types (word_at now.memory.blocks) (home_in (with_changing start now)) (young_places placing.places) (old_places placing.places) placing.husks []
 
@@ -56,9 +58,9 @@ module _ {start : HeapParts} {store : Store} {remembered : ℕ → ℕ → Bool}
   -- a word outside the nursery that is a target lies in the block of an object
   target-block : (b p : ℕ) → 4294967296 ≤ b → IsTrue (is_in p passed.weaks) → b ≡ (layout_at start.setup.types (word_at now.memory.blocks) p).ref_start → IsTrue (is_in p (old_places placing.places))
   target-block b p high t e =
-      let there = (listed_weak mid same passes p t).0 in
+      let there = (listed_weak mid same gray passes p t).0 in
       elim (cases_Bool (is_young p)) [
-        | inl y ↦ absurd (let i = mid.words.inside p (is_in-young placing.places p there y) in let small = nursery_small mid in let in_it = target_inside mid same passes b p t e in omega (arith, i, small, high, in_it.1))
+        | inl y ↦ absurd (let i = mid.words.inside p (is_in-young placing.places p there y) in let small = nursery_small mid in let in_it = target_inside mid same gray passes b p t e in omega (arith, i, small, high, in_it.1))
         | inr o ↦ is_in-old placing.places p there o
       ]
 
@@ -67,7 +69,7 @@ module _ {start : HeapParts} {store : Store} {remembered : ℕ → ℕ → Bool}
     blocks = ap (filter (begins_between 4294967296 9223372036854775808)) passes.targets.extents;
     words = λ a l r out. passes.targets.elsewhere a (λ p t e.
         let old = target-block a p l t e in
-        let in_it = target_inside mid same passes a p t e in
+        let in_it = target_inside mid same gray passes a p t e in
         let olds = each-left (λ x. (a < x.0) ⊎ (x.0 + x.1 ≤ a)) settled (husks ++ reserved) out in
         elim (each-member (λ x. (a < x.0) ⊎ (x.0 + x.1 ≤ a)) (block_at start.setup.types (word_at now.memory.blocks)) (old_places placing.places) p olds old) [
           | inl below ↦ absurd (omega (arith, below, in_it.0))
@@ -99,7 +101,7 @@ module _ {start : HeapParts} {store : Store} {remembered : ℕ → ℕ → Bool}
   husk-same q t = record {
     same = λ b l r. passes.targets.elsewhere b (λ p u e.
         let old = target-block b p (let low = husk-low q t in omega (arith, low, l)) u e in
-        let in_it = target_inside mid same passes b p u e in
+        let in_it = target_inside mid same gray passes b p u e in
         elim (husk-apart q p t old) [
           | inl before ↦ absurd (omega (arith, before, l, in_it.1))
           | inr behind ↦ absurd (omega (arith, behind, r, in_it.0))
@@ -108,19 +110,19 @@ module _ {start : HeapParts} {store : Store} {remembered : ℕ → ℕ → Bool}
 
   same-objects : SameObjects start.setup.types (word_in passed) (word_at now.memory.blocks) placing.places placing.husks
   same-objects = record {
-    layouts = passed_layouts mid same passes;
+    layouts = passed_layouts mid same gray passes;
     husk_layouts = λ q t. keeps-same start.setup.types (word_in passed) (word_at now.memory.blocks) q (husk-same q t);
   }
 
   pub passed_size : (q : ℕ) → IsTrue (is_in q placing.places) → words_at start.setup.types (word_in passed) q ≡ words_at start.setup.types (word_at now.memory.blocks) q
-  passed_size q t = ap (λ (l : Layout). l.words) (passed_layouts mid same passes q t).layout_stays
+  passed_size q t = ap (λ (l : Layout). l.words) (passed_layouts mid same gray passes q t).layout_stays
 
   -- blocks that lay in one block lie in one still
   pub passed_lies : (a n : ℕ) → lies_in_one now.memory.blocks a n ≡ true → lies_in_one passed.memory.blocks a n ≡ true
   passed_lies a n l = lies_in_one-extents passed.memory.blocks a n ∙ (ap (λ (xs : List Extent). lies_within xs a n) passes.targets.extents ∙ (sym (lies_in_one-extents now.memory.blocks a n) ∙ l))
 
   pub passed_whole : (q : ℕ) → IsTrue (is_in q placing.places) → HasObject passed.memory start.setup.types q
-  passed_whole q t = has_object-keeps now.memory passed.memory start.setup.types q (passed_layouts mid same passes q t) passed_lies (mid.words.whole q t)
+  passed_whole q t = has_object-keeps now.memory passed.memory start.setup.types q (passed_layouts mid same gray passes q t) passed_lies (mid.words.whole q t)
 
   pub places_differ : DoDiffer placing.places
   places_differ = names_differ placing.name placing.places (rise-differ 1 start.next (map placing.name placing.places) mid.rise)
@@ -139,7 +141,7 @@ module _ {start : HeapParts} {store : Store} {remembered : ℕ → ℕ → Bool}
 
   -- the parts after the pass
   abbrev pub parts_passed : HeapParts
-  parts_passed = record (with_changing start now) { memory = passed.memory; weaks = passed.weaks }
+  parts_passed = record (with_changing start (record now { gray = gray })) { memory = passed.memory; weaks = passed.weaks }
 
   pub gives_some_parts : GivesSome giving_of parts_passed
   gives_some_parts = record {
@@ -167,13 +169,31 @@ module _ {start : HeapParts} {store : Store} {remembered : ℕ → ℕ → Bool}
       let parts = not-lasting (is_young p) (is_in p (pinned_places start)) one.1 in
       (is_in-young placing.places p one.0 parts.0, parts.1)
 
--- What `drop_vanished` asks for.
-pub can_give_then : {stage : Stage} {now : HeapParts} {spot : Spot} {dead destroyed : List ℕ} (told : List ℕ) → Middle stage now spot [] → now.weaks ≡ stage.start.weaks
-    → FindsVanished stage spot now dead destroyed → CanGiveThen now dead told
-can_give_then {stage = stage} {now = now} {spot = spot} {dead = dead} told middle same found = λ passed told_new passes.
-    let p : PassesWeaks (with_changing stage.start (changing_of now)) passed told told_new = subst (λ (h : HeapParts). PassesWeaks h passed told told_new) middle.rest passes in
-    record {
-      giving = giving_of middle.mid same p;
-      gives = gives_some middle.mid same p;
-      gone = gone_young middle.mid same p dead found.just;
-    }
+-- Parts that are in a middle but for what is gray, which was queued since.
+pub record IsMiddleButGray (stage : Stage) (before now : HeapParts) (spot : Spot) : Type 0 where
+  pub middle : Middle stage before spot []
+  pub weaks : before.weaks ≡ stage.start.weaks
+  pub only : now ≡ record before { gray = now.gray }
+
+-- where nothing was queued
+pub middle_quiet : {stage : Stage} {now : HeapParts} {spot : Spot} → Middle stage now spot [] → now.weaks ≡ stage.start.weaks → IsMiddleButGray stage now now spot
+middle_quiet middle weaks = record { middle = middle; weaks = weaks; only = refl }
+
+module _ {stage : Stage} {before now : HeapParts} {spot : Spot} (m : IsMiddleButGray stage before now spot) where
+  -- what changed until then
+  abbrev pub queued_change : Changing
+  queued_change = record (changing_of before) { gray = now.gray }
+
+  pub queued_rest : now ≡ with_changing stage.start queued_change
+  queued_rest = m.only ∙ ap (λ (h : HeapParts). record h { gray = now.gray }) m.middle.rest
+
+  pub passes_from : {passed : HeapParts} {told_old told_new : List ℕ} → PassesWeaks now passed told_old told_new → PassesWeaks (with_changing stage.start queued_change) passed told_old told_new
+  passes_from {passed = passed} {told_old = told_old} {told_new = told_new} p = subst (λ (h : HeapParts). PassesWeaks h passed told_old told_new) queued_rest p
+
+  -- What `drop_vanished` asks for.
+  pub can_give_then : {dead destroyed : List ℕ} (told : List ℕ) → FindsVanished stage spot before dead destroyed → CanGiveThen now dead told
+  can_give_then {dead = dead} told found = λ passed told_new passes. record {
+    giving = giving_of m.middle.mid m.weaks now.gray (passes_from passes);
+    gives = gives_some m.middle.mid m.weaks now.gray (passes_from passes);
+    gone = gone_young m.middle.mid m.weaks now.gray (passes_from passes) dead found.just;
+  }

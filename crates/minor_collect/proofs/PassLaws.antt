@@ -57,7 +57,8 @@ module _ {start : HeapParts} {store : Store} {remembered : ℕ → ℕ → Bool}
   gone-same x (inl z) = let P : ℕ → Type 0 = λ k. targets.is_gone start.nursery.words (word_at now.memory.blocks) k ≡ is_gone_pointer (word_at now.memory.blocks) (pinned_places start) k in subst P (sym z) refl
   gone-same x (inr t) = ap (λ (b : Bool). not (x == 0) && not b) (survives_lasting (place_now (word_at now.memory.blocks) x) (now_place mid.words.objects mid.words.moving x t).0)
 
-  module _ {passed : HeapParts} {told_old told_new : List ℕ} (same : now.weaks ≡ start.weaks) (passes : PassesWeaks (with_changing start now) passed told_old told_new) where
+  module _ {passed : HeapParts} {told_old told_new : List ℕ} (same : now.weaks ≡ start.weaks) (gray : List ℕ)
+    (passes : PassesWeaks (with_changing start (record now { gray = gray })) passed told_old told_new) where
     left-are : passed.weaks ≡ weaks_left (word_at now.memory.blocks) (pinned_places start) start.weaks
     left-are =
         passes.left ∙ (ap (targets.weaks_left start.nursery.words (word_at now.memory.blocks)) same
