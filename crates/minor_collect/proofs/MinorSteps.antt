@@ -20,12 +20,14 @@ use Rattle.minor_collect.specs.Calls.{Stage, Spot, Middle, Survived, CanBegin}
 use Rattle.minor_collect.specs.Drops.{CanGiveThen, Drops}
 use Rattle.minor_collect.specs.Minor.{CanCollect, Took, MovesSurvivors, Separates}
 use Rattle.minor_collect.specs.Queues.{CanQueue, CanQueueSpans, CanLookAt, Queues, visited_places}
+use Rattle.minor_collect.specs.Remade.{CanRemake}
 use Rattle.minor_collect.specs.Spans.{TookAll, is_visited_span}
-use Rattle.minor_collect.specs.Vanished.{IsMidway}
+use Rattle.minor_collect.specs.Vanished.{IsMidway, FindsVanished}
 use Rattle.minor_collect.specs.WeakPass.{CanPassWeaks}
 use Rattle.minor_collect.proofs.CountLaws.{words_moved}
 use Rattle.minor_collect.proofs.Finished.{AtNumber}
-use Rattle.minor_collect.proofs.GivesAfter.{can_give_then}
+use Rattle.minor_collect.proofs.DropLaws.{can_remake_dropped}
+use Rattle.minor_collect.proofs.GivesAfter.{IsMiddleButGray, can_give_then}
 use Rattle.minor_collect.proofs.ItemSteps.{old_stays}
 use Rattle.minor_collect.proofs.StillLaws.{can_read}
 use Rattle.minor_collect.proofs.TraceEnds.{stage_of}
@@ -119,23 +121,16 @@ module _ {old new : HeapParts} {moving : Moving} {dead destroyed : List ℕ} (ca
       let same : last.old_words ≡ old.old_words = ap W d.links ∙ (ap W gave.only ∙ (ap W d.passes.only ∙ (ap W only_gray ∙ ap W survived_one.only))) in
       omega (arith, same, words_moved survived_one.standing.middle, survived_one.standing.counted.words, can.stands.sums.within, can.stands.made.ranges.2.2.1)
 
--- homes can be given back also where more is gray
-give-queued : (before : HeapParts) (gray : List ℕ) (dead told : List ℕ) → CanGiveThen before dead told → CanGiveThen (record before { gray = gray }) dead told
-give-queued before gray dead told gives passed told_new p =
-    let give = gives (record passed { gray = before.gray }) told_new (record {
-      left = p.left;
-      targets = p.targets;
-      told = p.told;
-      only = ap (λ (h : HeapParts). record h { gray = before.gray }) p.only;
-    }) in
-    record {
-      giving = give.giving;
-      gives = record { waiting = give.gives.waiting; gives = give.gives.gives; differ = give.gives.differ; page = give.gives.page; inside = give.gives.inside; small = give.gives.small; whole = give.gives.whole };
-      gone = give.gone;
-    }
+  -- what was listed as gone
+  pub found_one : FindsVanished (stage_of old can.store can.stands) survived_one.after s.moved dead destroyed
+  found_one = s.finds (stage_of old can.store can.stands) survived_one.after survived_one.standing.middle
+
+  -- a middle, but for what was queued since
+  pub middle_but_gray : IsMiddleButGray (stage_of old can.store can.stands) s.moved new survived_one.after
+  middle_but_gray = record { middle = survived_one.standing.middle; weaks = ap (λ (h : HeapParts). h.weaks) survived_one.only; only = only_gray }
 
 pub can_give : {old new : HeapParts} {moving : Moving} {dead destroyed : List ℕ} (told : List ℕ) → CanCollect old → Separates old new moving dead destroyed → CanGiveThen new dead told
-can_give {dead = dead} told can s =
-    let one = survived_one can s in
-    subst (λ (h : HeapParts). CanGiveThen h dead told) (sym (only_gray can s))
-    (give-queued s.moved _ dead told (can_give_then told one.standing.middle (ap (λ (h : HeapParts). h.weaks) one.only) (s.finds (stage_of _ can.store can.stands) one.after one.standing.middle)))
+can_give told can s = can_give_then (middle_but_gray can s) told (found_one can s)
+
+pub can_remake_last : {old new last : HeapParts} {moving : Moving} {dead destroyed told_old told_new : List ℕ} → CanCollect old → Separates old new moving dead destroyed → Drops new last dead told_old told_new → CanRemake last
+can_remake_last can s d = can_remake_dropped (middle_but_gray can s) (found_one can s) d

@@ -1,6 +1,6 @@
 use Rattle.std.proofs.Common.{◌≡◌, ◌+◌, ◌<◌, ◌^◌, ℕ, ap, sym, subst}
 use Rattle.minor_collect.specs.declared.work.Moving.{Moving}
-use Rattle.minor_collect.proofs.MinorSteps.{can_begin, can_give, can_pass_weaks, room_for_moved}
+use Rattle.minor_collect.proofs.MinorSteps.{can_begin, can_give, can_pass_weaks, can_remake_last, room_for_moved}
 use Rattle.minor_collect.proofs.SurvivorCounts.{counts_told}
 use Rattle.minor_collect.proofs.collection.minor.Goals as goal
 
@@ -14,7 +14,7 @@ pub drop_vanished-requires-clause-gives : goal.drop_vanished-requires-clause-giv
 drop_vanished-requires-clause-gives c = can_give _ c.requires.can c.in_ok-separate.ensures.separates
 
 pub close_nursery-requires-clause-can : goal.close_nursery-requires-clause-can
-close_nursery-requires-clause-can c = ?
+close_nursery-requires-clause-can c = can_remake_last c.requires.can c.in_ok-separate.ensures.separates c.in_ok-vanished.ensures.drops
 
 pub close_nursery-requires-clause-room : goal.close_nursery-requires-clause-room
 close_nursery-requires-clause-room c =
