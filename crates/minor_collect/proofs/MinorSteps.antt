@@ -1,8 +1,11 @@
 -- The steps of a minor collection, one behind another: what each leaves is what the next asks for.
-use Rattle.std.proofs.Common.{◌≡◌, ◌≢◌, ℕ, suc, ◌+◌, ◌<◌, ◌≤◌, ◌⊎◌, Bool, true, false, IsTrue, List, [], ◌∷◌, map, filter, Option, Some, slice_get, refl, sym, ap, ◌∙◌, subst, inl, inr, arith}
+use Rattle.std.proofs.Common.{◌≡◌, ◌≢◌, ℕ, suc, ◌+◌, ◌<◌, ◌≤◌, ◌⊎◌, Bool, true, false, IsTrue, List, [], ◌∷◌, ◌++◌, append_assoc, map, filter, Option, Some, slice_get, refl, sym, ap, ◌∙◌, subst, inl, inr, arith}
 use Rattle.std.specs.Prelude.{sum_by, ◌^◌}
 use Rattle.std.proofs.lemmas.Bool.{cases_Bool}
 use Rattle.heap_space.specs.Places.{has, word_at}
+use Rattle.text_model.specs.declared.line.Line.{Line}
+use Rattle.text_model.specs.declared.line.Line.TheVariants.{MinorDone, Cleared, Destroyed, LinkCut}
+use Rattle.text_model.specs.declared.line.LinkEnd.{LinkEnd}
 use Rattle.text_model.specs.declared.line.Phase.{Phase}
 use Rattle.text_model.specs.declared.line.Phase.TheVariants.{Scanning, Marking, Sweeping, Finalizing}
 use Rattle.object_view.proofs.LayoutLaws.{laid_out}
@@ -134,3 +137,17 @@ can_give told can s = can_give_then (middle_but_gray can s) told (found_one can 
 
 pub can_remake_last : {old new last : HeapParts} {moving : Moving} {dead destroyed told_old told_new : List ℕ} → CanCollect old → Separates old new moving dead destroyed → Drops new last dead told_old told_new → CanRemake last
 can_remake_last can s d = can_remake_dropped (middle_but_gray can s) (found_one can s) d
+
+-- the lines in one list
+pub lines_joined : {after : List Line} (before : List Line) (objects gone : ℕ) (cleared destroyed : List ℕ) {ends first : List LinkEnd} (cuts : List LinkEnd)
+    → after ≡ (((before ++ MinorDone objects gone ∷ []) ++ map (λ (b : ℕ). Cleared b) cleared) ++ map (λ (b : ℕ). Destroyed b) destroyed) ++ map (λ (end : LinkEnd). LinkCut end) ends
+    → ends ≡ first ++ cuts → first ≡ []
+    → after ≡ before ++ MinorDone objects gone ∷ (map (λ (b : ℕ). Cleared b) cleared ++ (map (λ (b : ℕ). Destroyed b) destroyed ++ map (λ (end : LinkEnd). LinkCut end) cuts))
+lines_joined before objects gone cleared destroyed {ends = ends} {first = first} cuts lines are none =
+    let C : List Line = map (λ (b : ℕ). Cleared b) cleared in
+    let D : List Line = map (λ (b : ℕ). Destroyed b) destroyed in
+    let L : List Line = map (λ (end : LinkEnd). LinkCut end) cuts in
+    let M : List Line = MinorDone objects gone ∷ [] in
+    let same : ends ≡ cuts = are ∙ ap (λ (xs : List LinkEnd). xs ++ cuts) none in
+    lines ∙ (ap (λ (xs : List LinkEnd). (((before ++ M) ++ C) ++ D) ++ map (λ (end : LinkEnd). LinkCut end) xs) same
+    ∙ (append_assoc ((before ++ M) ++ C) D L ∙ (append_assoc (before ++ M) C (D ++ L) ∙ append_assoc before M (C ++ (D ++ L)))))
