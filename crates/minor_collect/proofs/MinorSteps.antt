@@ -16,7 +16,9 @@ use Rattle.object_model.specs.Sets.{is_in}
 use Rattle.object_model.proofs.Members.{is_in-cases, is_in-nil}
 use Rattle.remember_cards.specs.declared.Span.{Span}
 use Rattle.heap_parts.specs.Parts.{HeapParts, word_in}
+use Rattle.store_model.specs.Store.{Store}
 use Rattle.heap_parts.specs.Places.{old_places}
+use Rattle.heap_parts.specs.StandsFor.{PartsStandFor}
 use Rattle.frame_laws.proofs.PlaceLaws.{old-is_in}
 use Rattle.minor_collect.specs.declared.work.Moving.{Moving}
 use Rattle.minor_collect.specs.Calls.{Stage, Spot, Middle, Survived, CanBegin}
@@ -32,6 +34,7 @@ use Rattle.minor_collect.proofs.Finished.{AtNumber}
 use Rattle.minor_collect.proofs.DropLaws.{can_remake_dropped}
 use Rattle.minor_collect.proofs.GivesAfter.{IsMiddleButGray, can_give_then}
 use Rattle.minor_collect.proofs.ItemSteps.{old_stays}
+use Rattle.minor_collect.proofs.StartedCollects.{stands_whole}
 use Rattle.minor_collect.proofs.StillLaws.{can_read}
 use Rattle.minor_collect.proofs.TraceEnds.{stage_of}
 
@@ -80,6 +83,10 @@ goes-on Marking = inl refl
 goes-on Scanning = inr (λ e. let no : ⊥ = cc in no)
 goes-on Sweeping = inr (λ e. let no : ⊥ = cc in no)
 goes-on Finalizing = inr (λ e. let no : ⊥ = cc in no)
+
+-- parts that stand for a store can be collected
+pub can_collect : {heap : HeapParts} {store : Store} → PartsStandFor heap store → CanCollect heap
+can_collect {store = store} stands = record { store = store; stands = (stands_whole stands).stands }
 
 pub can_begin : {heap : HeapParts} {moving : Moving} → CanCollect heap → moving.todo.items ≡ [] → moving.objects ≡ 0 → moving.words ≡ 0 → CanBegin heap moving
 can_begin can todo objects words = record { store = can.store; stands = can.stands; objects = objects; words = words; todo = todo }
