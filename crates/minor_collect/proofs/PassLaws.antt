@@ -53,14 +53,16 @@ module _ {start : HeapParts} {store : Store} {remembered : ℕ → ℕ → Bool}
         a ∙ sym b
   ]
 
-  gone-same : (x : ℕ) → IsPointer placing.met x → targets.is_gone start.nursery.words (word_at now.memory.blocks) x ≡ is_gone_pointer (word_at now.memory.blocks) (pinned_places start) x
-  gone-same x (inl z) = let P : ℕ → Type 0 = λ k. targets.is_gone start.nursery.words (word_at now.memory.blocks) k ≡ is_gone_pointer (word_at now.memory.blocks) (pinned_places start) k in subst P (sym z) refl
-  gone-same x (inr t) = ap (λ (b : Bool). not (x == 0) && not b) (survives_lasting (place_now (word_at now.memory.blocks) x) (now_place mid.words.objects mid.words.moving x t).0)
+  -- and a pointer is gone where its object does not
+  pub gone_same : (x : ℕ) → IsPointer placing.met x → targets.is_gone start.nursery.words (word_at now.memory.blocks) x ≡ is_gone_pointer (word_at now.memory.blocks) (pinned_places start) x
+  gone_same x (inl z) = let P : ℕ → Type 0 = λ k. targets.is_gone start.nursery.words (word_at now.memory.blocks) k ≡ is_gone_pointer (word_at now.memory.blocks) (pinned_places start) k in subst P (sym z) refl
+  gone_same x (inr t) = ap (λ (b : Bool). not (x == 0) && not b) (survives_lasting (place_now (word_at now.memory.blocks) x) (now_place mid.words.objects mid.words.moving x t).0)
 
   module _ {passed : HeapParts} {told_old told_new : List ℕ} (same : now.weaks ≡ start.weaks) (gray : List ℕ)
     (passes : PassesWeaks (with_changing start (record now { gray = gray })) passed told_old told_new) where
-    left-are : passed.weaks ≡ weaks_left (word_at now.memory.blocks) (pinned_places start) start.weaks
-    left-are =
+    -- the list is that of the weak objects that stay
+    pub left_are : passed.weaks ≡ weaks_left (word_at now.memory.blocks) (pinned_places start) start.weaks
+    left_are =
         passes.left ∙ (ap (targets.weaks_left start.nursery.words (word_at now.memory.blocks)) same
         ∙ filter-agree (targets.survives start.nursery.words (word_at now.memory.blocks)) (λ p. is_lasting (pinned_places start) p) (map (place_now (word_at now.memory.blocks)) start.weaks)
         (λ p t.
@@ -71,15 +73,15 @@ module _ {start : HeapParts} {store : Store} {remembered : ℕ → ℕ → Bool}
     -- each that is listed still is a weak object
     pub listed_weak : (p : ℕ) → IsTrue (is_in p passed.weaks) → IsTrue (is_in p placing.places) × ((info_at start.setup.types (word_at now.memory.blocks) p).shape ≡ Weak)
     listed_weak p t =
-        let last = filter-part (λ q. is_lasting (pinned_places start) q) (map (place_now (word_at now.memory.blocks)) start.weaks) p (subst (λ (l : List ℕ). IsTrue (is_in p l)) left-are t) in
+        let last = filter-part (λ q. is_lasting (pinned_places start) q) (map (place_now (word_at now.memory.blocks)) start.weaks) p (subst (λ (l : List ℕ). IsTrue (is_in p l)) left_are t) in
         let n = named-by (place_now (word_at now.memory.blocks)) p start.weaks last.0 in
         let there = now_place mid.words.objects mid.words.moving n.place (mid.carried.weaks_are.there n.place n.there) in (
           subst (λ (k : ℕ). IsTrue (is_in k placing.places)) (sym n.is) there.0,
           weak-shape _ (ap (is_weak_at start.setup.types (word_at now.memory.blocks)) n.is ∙ weak_was mid.words.objects mid.words.moving mid.carried n.place n.there),
         )
 
-    target-pointer : (p : ℕ) → IsTrue (is_in p passed.weaks) → IsPointer placing.met (targets.target_at start.setup.types (word_at now.memory.blocks) p)
-    target-pointer p t =
+    pub target_pointer : (p : ℕ) → IsTrue (is_in p passed.weaks) → IsPointer placing.met (targets.target_at start.setup.types (word_at now.memory.blocks) p)
+    target_pointer p t =
         let there = listed_weak p t in
         let one = weak-at start.setup.types (word_at now.memory.blocks) p there.1 in
         let F : ℕ → Type 0 = λ k. IsPointer placing.met (word_at now.memory.blocks k) in
@@ -88,10 +90,10 @@ module _ {start : HeapParts} {store : Store} {remembered : ℕ → ℕ → Bool}
     -- The pass clears the targets that are gone.
     pub clears_weaks : ClearsWeaks start.setup.types (word_in passed) (word_at now.memory.blocks) (pinned_places start) start.weaks passed.weaks
     clears_weaks = record {
-      left_are = left-are;
+      left_are = left_are;
       written = λ p t.
           let x : ℕ = targets.target_at start.setup.types (word_at now.memory.blocks) p in
-          passes.targets.written p t ∙ ap (λ (b : Bool). if b then 0 else place_now (word_at now.memory.blocks) x) (gone-same x (target-pointer p t));
+          passes.targets.written p t ∙ ap (λ (b : Bool). if b then 0 else place_now (word_at now.memory.blocks) x) (gone_same x (target_pointer p t));
       elsewhere = passes.targets.elsewhere;
     }
 
