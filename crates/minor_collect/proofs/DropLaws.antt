@@ -38,22 +38,23 @@ module _ {stage : Stage} {before now new : HeapParts} {spot : Spot} {dead destro
   pub gave_all : GaveAll (giving_of m.middle.mid m.weaks now.gray weaks_passed) d.passed d.gave dead
   gave_all = d.gives (giving_of m.middle.mid m.weaks now.gray weaks_passed) (gives_some m.middle.mid m.weaks now.gray weaks_passed) (gone_young m.middle.mid m.weaks now.gray weaks_passed dead found.just)
 
-  gave-rest : d.gave ≡ record (with_changing stage.start (queued_change m)) { memory = d.gave.memory; shadows = d.gave.shadows; old_blocks = d.gave.old_blocks; weaks = d.passed.weaks }
-  gave-rest = gave_all.only ∙ ap (λ (h : HeapParts). record h { memory = d.gave.memory; shadows = d.gave.shadows; old_blocks = d.gave.old_blocks }) weaks_passed.only
+  -- the parts once homes were given back
+  pub gave_rest : d.gave ≡ record (with_changing stage.start (queued_change m)) { memory = d.gave.memory; shadows = d.gave.shadows; old_blocks = d.gave.old_blocks; weaks = d.passed.weaks }
+  gave_rest = gave_all.only ∙ ap (λ (h : HeapParts). record h { memory = d.gave.memory; shadows = d.gave.shadows; old_blocks = d.gave.old_blocks }) weaks_passed.only
 
   -- the parts then
   pub dropped_rest : new ≡ with_changing stage.start (dropped_change (queued_change m) d.passed d.gave dead)
-  dropped_rest = d.links ∙ ap (λ (h : HeapParts). record h { links = cut_links (λ object. is_in object dead) h.links }) gave-rest
+  dropped_rest = d.links ∙ ap (λ (h : HeapParts). record h { links = cut_links (λ object. is_in object dead) h.links }) gave_rest
 
   dropped-size : (q : ℕ) → IsTrue (is_in q (young_places spot.placing.places)) → words_at stage.start.setup.types (word_in d.gave) q ≡ words_at stage.start.setup.types (word_in before) q
   dropped-size q t =
       let there = (young-is_in spot.placing.places q t).0 in
       let P : HeapParts → Type 0 = λ h. SameAt h.setup.types (word_in d.gave) (word_in d.passed) q in
-      ap (λ (l : Layout). l.words) (keeps-same stage.start.setup.types (word_in d.gave) (word_in d.passed) q (subst P gave-rest (gave_all.after.gives.keeps.objects q there))).layout_stays
+      ap (λ (l : Layout). l.words) (keeps-same stage.start.setup.types (word_in d.gave) (word_in d.passed) q (subst P gave_rest (gave_all.after.gives.keeps.objects q there))).layout_stays
       ∙ passed_size m.middle.mid m.weaks now.gray weaks_passed q there
 
   -- The nursery can be made anew.
   pub can_remake_dropped : CanRemake new
   can_remake_dropped = subst CanRemake (sym dropped_rest)
       (can_remake m.middle.mid stage.stands.sound.pins (with_changing stage.start (dropped_change (queued_change m) d.passed d.gave dead)) refl refl dropped-size
-      (λ q t. let P : HeapParts → Type 0 = λ h. HasObject d.gave.memory h.setup.types q in subst P gave-rest (gave_all.after.whole q t)))
+      (λ q t. let P : HeapParts → Type 0 = λ h. HasObject d.gave.memory h.setup.types q in subst P gave_rest (gave_all.after.whole q t)))
