@@ -241,10 +241,9 @@ module _ {stage : Stage} {moved queued dropped remade taken : HeapParts} {moving
   collected {last = last} e =
       let end = minor_finished stage.stands young mid_now s.none finishes loss in
       let links : link_ends (λ object. is_in object dead) moved.links.structs ≡ link_ends (λ object. is_in object dead) queued.links.structs =
-      ap (λ (h : HeapParts). link_ends (λ (object : ℕ). is_in object dead) h.links.structs) (sym only-gray) in
-      (
+      ap (λ (h : HeapParts). link_ends (λ (object : ℕ). is_in object dead) h.links.structs) (sym only-gray) in (
         end.0,
         subst (λ (lines : List Line). MinorCollection stage.store lines end.0) (λ i.
-        MinorDone (sym s.standing.counted.objects i) (length dead) ∷ (map (λ b. Cleared b) cleared ++ (map (λ b. Destroyed b) destroyed ++ map (λ cut. LinkCut cut) (links i)))) end.1,
+            MinorDone (sym s.standing.counted.objects i) (length dead) ∷ (map (λ b. Cleared b) cleared ++ (map (λ b. Destroyed b) destroyed ++ map (λ cut. LinkCut cut) (links i)))) end.1,
         subst (λ (h : HeapParts). IsCollected h end.0) (sym (ended_is e)) end.2,
       )

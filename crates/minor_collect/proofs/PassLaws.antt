@@ -59,7 +59,7 @@ module _ {start : HeapParts} {store : Store} {remembered : ℕ → ℕ → Bool}
   gone_same x (inr t) = ap (λ (b : Bool). not (x == 0) && not b) (survives_lasting (place_now (word_at now.memory.blocks) x) (now_place mid.words.objects mid.words.moving x t).0)
 
   module _ {passed : HeapParts} {told_old told_new : List ℕ} (same : now.weaks ≡ start.weaks) (gray : List ℕ)
-    (passes : PassesWeaks (with_changing start (record now { gray = gray })) passed told_old told_new) where
+      (passes : PassesWeaks (with_changing start (record now { gray = gray })) passed told_old told_new) where
     -- the list is that of the weak objects that stay
     pub left_are : passed.weaks ≡ weaks_left (word_at now.memory.blocks) (pinned_places start) start.weaks
     left_are =
