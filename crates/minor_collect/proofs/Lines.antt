@@ -35,6 +35,7 @@ use Rattle.frame_laws.proofs.Births.{rise-differ}
 use Rattle.frame_laws.proofs.PlaceLaws.{named-by, settled-old}
 use Rattle.minor_collect.specs.Carried.{Moved}
 use Rattle.minor_collect.specs.Midway.{Midway, Changing, Owes, is_lasting, Placing, OwesNone}
+use Rattle.minor_collect.specs.Ending.{DoDiffer}
 use Rattle.minor_collect.specs.Lines.{weaks_left, is_gone_pointer, loses_target, TellsLoss}
 use Rattle.store_model.proofs.Counts.{count_either}
 use Rattle.minor_collect.proofs.EndBirths.{births_named, settled_end, rise_part}
@@ -116,15 +117,37 @@ module _ {start : HeapParts} {store : Store} {now : Changing} {held : List ℕ} 
   rises : RiseBetween 1 (map placing.name placing.places) start.next
   rises = mid.rise
 
-  module _ {dead cleared destroyed : List ℕ}
-      (l : TellsLoss start.setup.types (word_at now.memory.blocks) (pinned_places start) placing.places start.weaks start.next dead cleared destroyed) where
-    dead-count : length (births_where store.kept (vanishes store (λ z. is_in z placing.found))) ≡ length dead
-    dead-count =
+  -- how many moved
+  pub settled_count : length (births_where store.kept (settles store (λ z. is_in z placing.found))) ≡ moved.objects
+  settled_count =
+      let both : length (births_where store.kept (λ x. is_in x store.settled || settles store (λ z. is_in z placing.found) x))
+      ≡ length (births_where store.kept (λ x. is_in x store.settled)) + length (births_where store.kept (settles store (λ z. is_in z placing.found))) =
+      count_either store.kept (λ x. is_in x store.settled) (settles store (λ z. is_in z placing.found)) (λ x e. ap (λ (b : Bool). not b && (is_in x placing.found && not (is_in x (map (λ (entry : ℕ × ℕ). entry.0) store.pinned)))) e) in
+      let end : length (births_where store.kept (λ x. is_in x store.settled || settles store (λ z. is_in z placing.found) x)) ≡ length (old_places placing.places) =
+      ap length (settled_end mid.words.objects mid.follows (listed mid.pins) s.sound.pins.unsettled) ∙ length-map placing.name (old_places placing.places) in
+      let first : length (births_where store.kept (λ x. is_in x store.settled)) ≡ length store.settled = settled-length in
+      let counted : length (old_places placing.places) ≡ length store.settled + moved.objects = mid.carried.counted in
+      omega (arith, both, end, first, counted)
+    where
+      -- the settled objects of before, by their places then
+      settled-length : length (births_where store.kept (λ x. is_in x store.settled)) ≡ length store.settled
+      settled-length =
+          ap length (births_named (λ x. is_in x store.settled) s.words.objects)
+          ∙ (length-map s.name (filter (λ p. is_in (s.name p) store.settled) s.places)
+          ∙ (ap length (filter-agree (λ p. is_in (s.name p) store.settled) (λ p. not (is_young p)) s.places
+          (λ p t. ap (is_in (s.name p)) s.births.settled_are ∙ settled-old s.name s.places p t s.words.objects.differ))
+          ∙ sym (ap length s.births.settled_are ∙ length-map s.name (old_places s.places))))
+
+  module _ (dead : List ℕ) (once : DoDiffer dead) (just : (p : ℕ) → IsTrue (is_in p dead) → IsTrue (is_in p placing.places) × (is_lasting (pinned_places start) p ≡ false))
+      (all : (p : ℕ) → IsTrue (is_in p placing.places) → is_lasting (pinned_places start) p ≡ false → IsTrue (is_in p dead)) where
+    -- and how many are gone
+    pub dead_count : length (births_where store.kept (vanishes store (λ z. is_in z placing.found))) ≡ length dead
+    dead_count =
         let differ = part_differs (λ p. not (is_lasting (pinned_places start) p)) placing.places (names_differ placing.name placing.places (rise-differ 1 start.next (map placing.name placing.places) mid.rise)) in
         let same : IsPermutation dead (filter (λ p. not (is_lasting (pinned_places start) p)) placing.places) =
-        same_members dead (filter (λ p. not (is_lasting (pinned_places start) p)) placing.places) l.once differ
-        (λ p t. let j = l.just p t in filter-member (λ q. not (is_lasting (pinned_places start) q)) placing.places p j.0 (ap not j.1))
-        (λ p t. let part = filter-part (λ q. not (is_lasting (pinned_places start) q)) placing.places p t in l.all p part.0 (not-true (is_lasting (pinned_places start) p) part.1)) in
+        same_members dead (filter (λ p. not (is_lasting (pinned_places start) p)) placing.places) once differ
+        (λ p t. let j = just p t in filter-member (λ q. not (is_lasting (pinned_places start) q)) placing.places p j.0 (ap not j.1))
+        (λ p t. let part = filter-part (λ q. not (is_lasting (pinned_places start) q)) placing.places p t in all p part.0 (not-true (is_lasting (pinned_places start) p) part.1)) in
         ap length (births_named (vanishes store (λ z. is_in z placing.found)) mid.words.objects)
         ∙ (length-map placing.name (filter (λ p. vanishes store (λ z. is_in z placing.found) (placing.name p)) placing.places)
         ∙ (ap length (filter-agree (λ p. vanishes store (λ z. is_in z placing.found) (placing.name p)) (λ p. not (is_lasting (pinned_places start) p)) placing.places gone-at)
@@ -134,26 +157,8 @@ module _ {start : HeapParts} {store : Store} {now : Changing} {held : List ℕ} 
         not-true true e = absurd (let no : ⊥ = cc in no)
         not-true false e = refl
 
-    settled-count : length (births_where store.kept (settles store (λ z. is_in z placing.found))) ≡ moved.objects
-    settled-count =
-        let both : length (births_where store.kept (λ x. is_in x store.settled || settles store (λ z. is_in z placing.found) x))
-        ≡ length (births_where store.kept (λ x. is_in x store.settled)) + length (births_where store.kept (settles store (λ z. is_in z placing.found))) =
-        count_either store.kept (λ x. is_in x store.settled) (settles store (λ z. is_in z placing.found)) (λ x e. ap (λ (b : Bool). not b && (is_in x placing.found && not (is_in x (map (λ (entry : ℕ × ℕ). entry.0) store.pinned)))) e) in
-        let end : length (births_where store.kept (λ x. is_in x store.settled || settles store (λ z. is_in z placing.found) x)) ≡ length (old_places placing.places) =
-        ap length (settled_end mid.words.objects mid.follows (listed mid.pins) s.sound.pins.unsettled) ∙ length-map placing.name (old_places placing.places) in
-        let first : length (births_where store.kept (λ x. is_in x store.settled)) ≡ length store.settled = settled-length in
-        let counted : length (old_places placing.places) ≡ length store.settled + moved.objects = mid.carried.counted in
-        omega (arith, both, end, first, counted)
-      where
-        -- the settled objects of before, by their places then
-        settled-length : length (births_where store.kept (λ x. is_in x store.settled)) ≡ length store.settled
-        settled-length =
-            ap length (births_named (λ x. is_in x store.settled) s.words.objects)
-            ∙ (length-map s.name (filter (λ p. is_in (s.name p) store.settled) s.places)
-            ∙ (ap length (filter-agree (λ p. is_in (s.name p) store.settled) (λ p. not (is_young p)) s.places
-            (λ p t. ap (is_in (s.name p)) s.births.settled_are ∙ settled-old s.name s.places p t s.words.objects.differ))
-            ∙ sym (ap length s.births.settled_are ∙ length-map s.name (old_places s.places))))
-
+  module _ {dead cleared destroyed : List ℕ}
+      (l : TellsLoss start.setup.types (word_at now.memory.blocks) (pinned_places start) placing.places start.weaks start.next dead cleared destroyed) where
     -- births that are printed are those of the places that pass
     births-printed : (passes : ℕ → Bool) (qs printed : List ℕ) → RiseBetween 1 printed start.next → IsPermutation (map (λ p. word_at now.memory.blocks (p + 1)) qs) printed
         → ((p : ℕ) → IsTrue (is_in p placing.places) → passes p ≡ true → IsTrue (is_in p qs)) → ((p : ℕ) → IsTrue (is_in p qs) → IsTrue (is_in p placing.places) × (passes p ≡ true))
@@ -258,4 +263,4 @@ module _ {start : HeapParts} {store : Store} {now : Changing} {held : List ℕ} 
         ≡ map (λ (o : Object). Cleared o.birth) (filter (λ (o : Object). not (vanishes store (λ z. is_in z placing.found) o.birth) && target_passes (vanishes store (λ z. is_in z placing.found)) o.target) store.kept)
         ++ loss_lines store (vanishes store (λ z. is_in z placing.found)) =
         ap₂ (λ (xs ys : List Line). xs ++ ys) (sym some) (ap₂ (λ (xs ys : List Line). xs ++ ys) (sym others) (ap (map (λ (cut : LinkEnd). LinkCut cut)) (sym cuts))) in
-        ap₂ (λ (first : Line) (rest : List Line). first ∷ rest) (ap₂ (λ (a b : ℕ). MinorDone a b) (sym settled-count) (sym dead-count)) tail
+        ap₂ (λ (first : Line) (rest : List Line). first ∷ rest) (ap₂ (λ (a b : ℕ). MinorDone a b) (sym settled_count) (sym (dead_count dead l.once l.just l.all))) tail

@@ -5,12 +5,14 @@ use Rattle.weak_lists.specs.Cleared.{TellsInOrder, births_losing}
 use Rattle.heap_parts.specs.Parts.{HeapParts, word_in}
 use Rattle.minor_collect.specs.Calls.{Stage, Spot, Middle}
 
--- the parts are in some middle, and the weak objects are listed as they were when the collection began
+-- the parts are in some middle, but for what was queued since, and the weak objects are listed as they were when the collection began
 pub record CanPassWeaks (now : HeapParts) : Type 0 where
   pub stage : Stage
   pub spot : Spot
-  pub middle : Middle stage now spot []
-  pub weaks : now.weaks ≡ stage.start.weaks
+  pub before : HeapParts
+  pub middle : Middle stage before spot []
+  pub only : now ≡ record before { gray = now.gray }
+  pub weaks : before.weaks ≡ stage.start.weaks
 
 -- Weak objects that are gone are listed no longer, targets follow or are cleared, and the births of those that lose theirs are told by
 -- rising birth.

@@ -1,6 +1,6 @@
 //! A minor collection, whole.
 
-ghost use Rattle.std.specs.Prelude.{◌≡◌, ◌++◌, [], ◌∷◌, length, map, OnOk, IfOk};
+ghost use Rattle.std.specs.Prelude.{◌≡◌, ◌+◌, ◌++◌, ◌<◌, ◌^◌, [], ◌∷◌, length, map, OnOk, IfOk};
 ghost use Rattle.object_model.specs.Sets.{is_in};
 ghost use Rattle.store_model.specs.Links.{cut_links, link_ends};
 ghost use Rattle.text_model.specs.declared.line.Line.TheVariants.{MinorDone, Cleared, Destroyed, LinkCut};
@@ -8,6 +8,9 @@ ghost use Rattle.store_model.specs.Store.{Store};
 ghost use Rattle.heap_parts.specs.StandsFor.{PartsStandButYoung};
 ghost use Rattle.text_model.specs.declared.line.Phase.TheVariants.{Marking};
 ghost use Rattle.minor_collect.specs.Calls.{CanBegin, Survived, Stage, Spot, Middle};
+ghost use Rattle.heap_parts.specs.Collects.{CollectsMinor};
+ghost use Rattle.minor_collect.specs.Counts.{CountsSurvivors};
+ghost use Rattle.minor_collect.specs.Minor.{CanCollect, Took, Separates, Closes};
 ghost use Rattle.minor_collect.specs.Drops.{CanGiveThen, Drops};
 ghost use Rattle.minor_collect.specs.WeakPass.{CanPassWeaks, PassesWeaks};
 ghost use Rattle.minor_collect.specs.Remade.{CanRemake, Remakes};
@@ -25,27 +28,61 @@ use remember_cards::Span;
 use std::alloc::AllocError;
 use text_model::{Line, LinkEnd, Phase};
 
-/// How a minor collection ended.
+/// How a minor collection ended: what survived and was not pinned is settled, and what did not survive vanished.
 #[derive(Clone, Copy, PartialEq, Eq, Debug)]
 pub struct MinorEnd {
     /// How many objects moved out of the nursery.
     pub settled: u64,
-    /// The words of those.
+    /// The words of those, each of 8 bytes.
     pub settled_words: u64,
-    /// How many objects are gone.
+    /// How many objects of the nursery are gone.
     pub vanished: u64,
 }
 
 /// A minor collection. The objects of the nursery that roots, registered objects, P links or remembered references lead to
-/// move out of it, but for the pinned ones, and the others are gone. The lines of that are appended. The lists are scratch.
+/// move out of it, but for the pinned ones, which stay where they are; all others are gone. Targets of weak objects follow, or are
+/// cleared where they are gone. These are PyPy's rules; the lines of all that, which are appended, are this project's own. What
+/// the lists hold before does not matter. The cost is that of the words in the nursery, the slots and what is remembered.
 ///
-/// The error is out of memory, and the parts are spent then.
+/// The error is out of memory: the parts are spent then, and some of the lines may be appended.
 pub fn minor(
     parts: &mut Parts,
     lists: &mut Lists,
     events: &mut Vec<Line>,
-) -> Result<MinorEnd, AllocError> {
+) -> Result<MinorEnd, AllocError>
+    requires can { CanCollect parts.old }
+    ensures collects { OnOk result (CollectsMinor parts.old parts.new events.old.items events.new.items) }
+    ensures counts { (store : Store) (stands : PartsStandButYoung parts.old store) → IfOk result (CountsSurvivors (record { start = parts.old; store = store; stands = stands })) }
+    ensures fresh { OnOk result (parts.new.fresh ≡ 0) }
+{
     lists.clear();
+    separate(parts, lists)?;
+    let vanished = drop_vanished(parts, lists, events)?;
+    let moving = &lists.moving;
+    close_nursery(parts, moving.words, &mut lists.places, &mut lists.pinned)?;
+    Ok(MinorEnd {
+        settled: moving.objects,
+        settled_words: moving.words,
+        vanished,
+    })
+}
+
+/// Moves what survives out of the nursery, lists what is gone, and queues for marking what written objects refer to. The lists
+/// are empty before. The error is out of memory.
+fn separate(parts: &mut Parts, lists: &mut Lists) -> Result<(), AllocError>
+    requires begin { CanBegin parts.old lists.old.moving }
+    requires spans { lists.old.spans.items ≡ [] }
+    requires registered { lists.old.registered.items ≡ [] }
+    requires forced { lists.old.forced.items ≡ [] }
+    requires dead { lists.old.dead.items ≡ [] }
+    requires destroyed { lists.old.destroyed.items ≡ [] }
+    requires written { lists.old.written.items ≡ [] }
+    ensures separates { OnOk result (Separates parts.old parts.new lists.new.moving lists.new.dead.items lists.new.destroyed.items) }
+    ensures cleared { lists.new.cleared.items ≡ lists.old.cleared.items }
+    ensures ends { lists.new.ends.items ≡ lists.old.ends.items }
+    ensures places { lists.new.places.items ≡ lists.old.places.items }
+    ensures pinned { lists.new.pinned.items ≡ lists.old.pinned.items }
+{
     move_survivors(
         parts,
         &mut lists.moving,
@@ -54,17 +91,7 @@ pub fn minor(
         &mut lists.forced,
     )?;
     find_vanished(parts, &mut lists.dead, &mut lists.destroyed)?;
-    queue_visited(parts, &lists.spans, &mut lists.written)?;
-    let vanished = drop_vanished(parts, lists, events)?;
-    remake_nursery(parts, &mut lists.places, &mut lists.pinned)?;
-    let moving = &lists.moving;
-    parts.old_words += moving.words;
-    parts.fresh = 0;
-    Ok(MinorEnd {
-        settled: moving.objects,
-        settled_words: moving.words,
-        vanished,
-    })
+    queue_visited(parts, &lists.spans, &mut lists.written)
 }
 
 /// Moves all that survives and is not pinned out of the nursery. The lists are empty before. The error is out of memory.
@@ -79,7 +106,8 @@ fn move_survivors(
     requires spans { spans.old.items ≡ [] }
     requires registered { registered.old.items ≡ [] }
     requires forced { forced.old.items ≡ [] }
-    ensures { (store : Store) (stands : PartsStandButYoung parts.old store) → OnOk result (Survived (record { start = parts.old; store = store; stands = stands }) parts.new moving.new) }
+    ensures survived { (store : Store) (stands : PartsStandButYoung parts.old store) → OnOk result (Survived (record { start = parts.old; store = store; stands = stands }) parts.new moving.new) }
+    ensures took { OnOk result (Took parts.old spans.new.items) }
 {
     take_all(parts, spans)?;
     follow_roots(parts, moving, registered, forced)?;
@@ -130,6 +158,7 @@ fn drop_vanished(
     requires gives { CanGiveThen parts.old lists.old.dead.items lists.old.cleared.items }
     ensures drops { OnOk result (Drops parts.old parts.new lists.old.dead.items lists.old.cleared.items lists.new.cleared.items) }
     ensures lines { OnOk result (events.new.items ≡ (((events.old.items ++ MinorDone lists.old.moving.objects (length lists.old.dead.items) ∷ []) ++ map (λ birth. Cleared birth) lists.new.cleared.items) ++ map (λ birth. Destroyed birth) lists.old.destroyed.items) ++ map (λ end. LinkCut end) lists.new.ends.items) }
+    ensures ends { OnOk result (lists.new.ends.items ≡ lists.old.ends.items ++ link_ends (λ object. is_in object lists.old.dead.items) parts.old.links.structs) }
     ensures moving { lists.new.moving ≡ lists.old.moving }
     ensures places { lists.new.places.items ≡ lists.old.places.items }
     ensures pinned { lists.new.pinned.items ≡ lists.old.pinned.items }
@@ -187,5 +216,25 @@ fn remake_nursery(
     parts.unsettled = pinned_ranges(parts, places, pinned)?;
     parts.nursery.reset(pinned);
     parts.gapped = !parts.pins.is_empty();
+    Ok(())
+}
+
+/// Makes the nursery anew, and adds the words that moved to those outside it, where nothing was born since. The lists are scratch,
+/// and empty before. The error is out of memory.
+fn close_nursery(
+    parts: &mut Parts,
+    words: u64,
+    places: &mut Vec<u64>,
+    pinned: &mut Vec<(u64, u64)>,
+) -> Result<(), AllocError>
+    requires can { CanRemake parts.old }
+    requires room { parts.old.old_words + words < 2 ^ 64 }
+    requires no_places { places.old.items ≡ [] }
+    requires none { pinned.old.items ≡ [] }
+    ensures { OnOk result (Closes parts.old parts.new words) }
+{
+    remake_nursery(parts, places, pinned)?;
+    parts.old_words += words;
+    parts.fresh = 0;
     Ok(())
 }

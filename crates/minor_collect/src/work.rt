@@ -53,7 +53,8 @@ impl Moving {
     }
 }
 
-/// The lists of a minor collection, whose room is kept from one to the next.
+/// The lists of a minor collection. They are scratch: what they hold between two collections means nothing, and only their room
+/// is kept, so that a later collection allocates less.
 #[derive(Drop)]
 pub struct Lists {
     pub(crate) moving: Moving,
@@ -79,7 +80,7 @@ pub struct Lists {
 }
 
 impl Lists {
-    /// Empty lists. They take no memory.
+    /// Empty lists. It does not allocate.
     pub fn new(alloc: Global) -> Self {
         Lists {
             moving: Moving::new(alloc),

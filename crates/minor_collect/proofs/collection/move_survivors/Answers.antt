@@ -33,8 +33,8 @@ drain-requires c =
     let d = c.in_ok-drain_spans.ensures stage b.after b.standing may in
     record { stage = stage; spot = d.after; standing = d.standing; todo = todo_are stage (adds_twice b.adds d.adds) g.todo }
 
-pub returns : goal.returns
-returns c = λ store stands.
+pub returns-clause-survived : goal.returns-clause-survived
+returns-clause-survived c = λ store stands.
     let g = c.requires.begin in
     let stage : Stage = stage_of c.args.parts.now store stands in
     let first = standing_taken (standing_begins stage c.args.moving.now g.objects g.words) c.in_ok-take_all.ensures in
@@ -45,3 +45,6 @@ returns c = λ store stands.
     let todo = todo_are stage (adds_twice b.adds d.adds) g.todo in
     on_ok c.drain.result (λ both. survived c.in_ok-take_all.ensures b d both.0 both.1)
     (both_ok (Drained stage c.drain_spans.new.parts c.drain.new.parts c.drain.new.moving d.after) (c.drain.new.moving.todo.items ≡ []) c.drain.result (c.drain.ensures.drained stage d.after d.standing todo) c.drain.ensures.emptied)
+
+pub returns-clause-took : goal.returns-clause-took
+returns-clause-took c = on_ok c.drain.result (λ all. record { taken = c.take_all.new.parts; took = c.in_ok-take_all.ensures }) c.drain.ensures.emptied

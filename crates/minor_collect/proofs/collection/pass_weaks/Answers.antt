@@ -1,4 +1,4 @@
-use Rattle.std.proofs.Common.{OnOk, sym, subst}
+use Rattle.std.proofs.Common.{OnOk, sym, ◌∙◌, subst}
 use Rattle.weak_lists.specs.Conditions.{CanFollow}
 use Rattle.heap_parts.specs.Parts.{HeapParts}
 use Rattle.heap_parts.specs.contracts.parts.Parts.{the_view}
@@ -11,7 +11,7 @@ pub after_minor-requires : goal.after_minor-requires
 after_minor-requires c =
     let r = c.requires in (
       r.spot.placing.places,
-      subst (λ (h : HeapParts). CanFollow h.setup.types h.nursery.words h.memory h.weaks r.spot.placing.places) (sym c.parts.view_is) (can_follow_weaks r.middle r.weaks),
+      subst (λ (h : HeapParts). CanFollow h.setup.types h.nursery.words h.memory h.weaks r.spot.placing.places) (sym (c.parts.view_is ∙ r.only)) (can_follow_weaks r.middle r.weaks),
     )
 
 pub returns : goal.returns
