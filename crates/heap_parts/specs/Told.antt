@@ -10,7 +10,6 @@ use Rattle.object_model.specs.declared.kind.Kind.{Kind}
 use Rattle.object_model.specs.ObjectWords.{info_at, layout_at}
 use Rattle.store_model.specs.Structs.{state_of, p_link_of}
 use Rattle.store_model.specs.Look.{Look}
-use Rattle.store_model.specs.Unbuilt.{Room}
 use Rattle.heap_parts.specs.Parts.{HeapParts, word_in, place_in}
 use Rattle.heap_parts.specs.Registers.{is_final}
 
@@ -34,10 +33,6 @@ items_by shape ints refs = 0
 -- how many items an array has, and 0 for an object of another shape
 abbrev pub items_of : Kind → ℕ
 items_of kind = items_by kind.shape kind.ints kind.refs
-
--- the words that tell whether a birth needs a collection
-abbrev pub room_told : HeapParts → Room
-room_told heap = record { unsettled = heap.unsettled; fresh = heap.fresh; counted = heap.unsettled + heap.old_words }
 
 -- something is told of the object at a place, and false where that is 0
 abbrev pub if_there : ℕ → Bool → Bool

@@ -1,5 +1,5 @@
 -- Worked scripts, whose transcripts the definitions allow: the form of a row, and how it is proved by computation.
-use Rattle.std.proofs.Common.{◌≡◌, ℕ, ◌+◌, ◌<◌, Bool, true, false, IsTrue, List, [], ◌∷◌, ◌++◌, map, length, Option, Some, None, refl, sym, ap, ◌∙◌, subst, inl, inr, ◌⊎◌}
+use Rattle.std.proofs.Common.{◌≡◌, ℕ, ◌+◌, ◌<◌, Bool, true, false, IsTrue, List, [], ◌∷◌, ◌++◌, map, length, Option, Some, None, refl, sym, ap, ◌∙◌, subst, inl, inr}
 use Rattle.std.specs.Prelude.{◌&&◌, is_none, nat_lt, flat_map, codes, bytes_eq, Result, Ok, Err}
 use Prim.Native.String.{String}
 use Rattle.std.proofs.lemmas.Bool.{false≢true}
@@ -22,7 +22,9 @@ use Rattle.text_model.specs.Numbers.{number_of}
 use Rattle.text_model.specs.CommandGrammar.{new_form, link_form, copy_form, structure_form, slot_form, command_form}
 use Rattle.text_model.specs.Grammar.{setting_of, setting_form, shape_words, type_form, form_of, item_of}
 use Rattle.text_model.specs.Script.{reading, readings}
-use Rattle.store_model.specs.EndOfRun.{IsDone, ExceedsLimit}
+use Rattle.text_model.specs.Units.{Said, says_item}
+use Rattle.store_model.specs.WholeUnits.{AreSaid, items_in}
+use Rattle.store_model.specs.EndOfRun.{IsDone, IsRefused, ExceedsLimit}
 use Rattle.object_model.proofs.Members.{and_first, and_second}
 use Rattle.store_model.proofs.Computed.{Choice, Outcome, Out, ok_of, lines_in, store_in, left_in, outcome, room_of, is_empty}
 use Rattle.store_model.proofs.Strict as strict
@@ -33,11 +35,6 @@ use Rattle.store_model.proofs.AllowedCommands.{outcome-means}
 unfoldable pub computes : Unit {0}
 unfolding reading item_of form_of setting_form setting_of shape_words type_form command_form slot_form structure_form new_form link_form copy_form number_of is_above refusal_seen words_text digits
 computes = tt
-
--- the language refuses line k where a script stands at `at`: it says nothing, or its item is refused
-abbrev pub IsRefused : Progress → ℕ → List ℕ → Reason → Type 0
-IsRefused at k line reason =
-    (reading k line ≡ Err reason) ⊎ ((item : Item) × (reading k line ≡ Ok item) × (refusal at item ≡ Some reason))
 
 -- what items add, whether they may, where they lead, and the choices that are left
 pub record Played : Type 0 where
@@ -117,38 +114,49 @@ all_say [] = true
 all_say (Ok item ∷ rest) = all_say rest
 all_say (Err reason ∷ rest) = false
 
-say-is : (rs : List (Result Item Reason)) → IsTrue (all_say rs) → rs ≡ map (λ item. Ok item) (items_of rs)
+say-is : (rs : List (Result Item Reason)) → IsTrue (all_say rs) → map says_item rs ≡ map (λ item. Ok item) (map (λ item. Some item) (items_of rs))
 say-is [] h = refl
-say-is (Ok item ∷ rest) h = ap (λ (rs : List (Result Item Reason)). Ok item ∷ rs) (say-is rest h)
+say-is (Ok item ∷ rest) h = ap (λ (units : List Said). Ok (Some item) ∷ units) (say-is rest h)
 say-is (Err reason ∷ rest) h = absurd (false≢true h)
+
+all-items : (items : List Item) → items ≡ items_in (map (λ item. Some item) items)
+all-items [] = refl
+all-items (item ∷ items) = ap (λ (rest : List Item). item ∷ rest) (all-items items)
+
+are-said : (rs : List (Result Item Reason)) → IsTrue (all_say rs) → AreSaid (map says_item rs) (items_of rs)
+are-said rs h = record { said = map (λ item. Some item) (items_of rs); units_are = say-is rs h; items_are = all-items (items_of rs) }
 
 -- the bytes of lines
 abbrev pub text_of : List String → List ℕ
 text_of lines = flat_map (λ line. codes line ++ 10 ∷ []) lines
 
+abbrev pub said : List String → List (Result Item Reason)
+said script = readings 1 (lines_of (text_of script))
+
+-- the units of lines
+abbrev pub units : List String → List Said
+units script = map says_item (said script)
+
 -- the script is done to its end, and this is its text
 pub record Allows (script text : List String) : Type 0 where
   pub after : Progress
-  pub done : IsDone (lines_of (text_of script)) (text_of text) after
+  pub done : IsDone (units script) (text_of text) after
 
 -- the lines in front are done with this text, and the next line is refused
 pub record Refuses (front : List String) (line : String) (text : List String) (reason : Reason) : Type 0 where
   pub after : Progress
-  pub done : IsDone (lines_of (text_of front)) (text_of text) after
-  pub refused : IsRefused after (length front + 1) (codes line) reason
+  pub done : IsDone (units front) (text_of text) after
+  pub refused : IsRefused after (says_item (reading (length front + 1) (codes line))) reason
 
 -- the lines in front are done, the limit refuses the next one, and this is the text of both
 pub record Exceeds (front : List String) (line : String) (text : List String) (counted request limit : ℕ) : Type 0 where
   pub mid : Progress
   pub first : List ℕ
-  pub done : IsDone (lines_of (text_of front)) first mid
+  pub done : IsDone (units front) first mid
   pub groups : List Group
   pub after : Progress
-  pub exceeds : ExceedsLimit mid (length front + 1) (codes line) counted request limit groups after
+  pub exceeds : ExceedsLimit mid (says_item (reading (length front + 1) (codes line))) counted request limit groups after
   pub whole : text_of text ≡ first ++ transcript_text groups
-
-abbrev pub said : List String → List (Result Item Reason)
-said script = readings 1 (lines_of (text_of script))
 
 abbrev pub played : List String → List Choice → Played
 played script choices = play (items_of (said script)) at_start choices
@@ -160,7 +168,7 @@ fits say text all = say && (all.ok && (is_empty all.left && bytes_eq text (trans
 abbrev pub plays : List String → List String → List Choice → Bool
 plays script text choices = fits (all_say (said script)) (text_of text) (played script choices)
 
-done-is : (script text : List String) (choices : List Choice) → IsTrue (plays script text choices) → IsDone (lines_of (text_of script)) (text_of text) (played script choices).after
+done-is : (script text : List String) (choices : List Choice) → IsTrue (plays script text choices) → IsDone (units script) (text_of text) (played script choices).after
 done-is script text choices h =
     let all : Played = played script choices in
     let say : Bool = all_say (said script) in
@@ -168,7 +176,7 @@ done-is script text choices h =
     let rest : IsTrue (all.ok && (is_empty all.left && same)) = and_second say (all.ok && (is_empty all.left && same)) h in record {
       items = items_of (said script);
       groups = all.groups;
-      read = say-is (said script) (and_first say (all.ok && (is_empty all.left && same)) h);
+      read = are-said (said script) (and_first say (all.ok && (is_empty all.left && same)) h);
       runs = play-runs (items_of (said script)) at_start choices (and_first all.ok (is_empty all.left && same) rest);
       text_is = (bytes_eq-Decides (text_of text) (transcript_text all.groups)).0 (and_second (is_empty all.left) same (and_second all.ok (is_empty all.left && same) rest));
     }
@@ -184,9 +192,9 @@ stop_of (Ok item) at = refusal at item
 some-same : (a b : Reason) → Some a ≡ Some b → a ≡ b
 some-same a b e = cc
 
-stop-is : (k : ℕ) (line : List ℕ) (at : Progress) (reason : Reason) (read : Result Item Reason) → reading k line ≡ read → stop_of read at ≡ Some reason → IsRefused at k line reason
-stop-is k line at reason (Err other) e is = inl (e ∙ ap (λ (r : Reason). Err r) (some-same other reason is))
-stop-is k line at reason (Ok item) e is = inr (item, e, is)
+stop-is : (k : ℕ) (line : List ℕ) (at : Progress) (reason : Reason) (read : Result Item Reason) → reading k line ≡ read → stop_of read at ≡ Some reason → IsRefused at (says_item (reading k line)) reason
+stop-is k line at reason (Err other) e is = inl (ap says_item e ∙ ap (λ (r : Reason). Err r) (some-same other reason is))
+stop-is k line at reason (Ok item) e is = inr (item, ap says_item e, is)
 
 pub refuses : {front text : List String} {line : String} {reason : Reason} (choices : List Choice) → IsTrue (plays front text choices)
     → stop_of (reading (length front + 1) (codes line)) (played front choices).after ≡ Some reason → Refuses front line text reason
@@ -220,7 +228,7 @@ exceeds {front} {text} {line} {counted} {request} {limit} first choices more h c
       after = after_command at (store_in room);
       exceeds = record {
         item = CommandItem command;
-        says = says;
+        says = ap says_item says;
         accepted = accepted;
         exceeds = record {
           lines = (lines_in room);

@@ -20,7 +20,7 @@ pub mod MarkingOrder
 pub mod Look
 pub mod Links
 pub mod Refusal
-pub mod Unbuilt
 pub mod Transcript
+pub mod WholeUnits
 pub mod EndOfRun
 pub mod ErrorText
