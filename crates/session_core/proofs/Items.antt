@@ -168,7 +168,7 @@ begins_first session new heap started types is none settings names fresh empty =
     }
 
 -- settings and types of the heap are those of the session
-setup_same : (session mid : SessionSeen) (heap started : HeapSeen) (b : Begins session mid heap started) → b.has_heap.parts.setup ≡ setup_of session heap
+pub setup_same : (session mid : SessionSeen) (heap started : HeapSeen) (b : Begins session mid heap started) → b.has_heap.parts.setup ≡ setup_of session heap
 setup_same session mid heap started b =
     let types : b.has_heap.parts.setup.types ≡ types_in session.types heap =
     ap (λ (h : HeapSeen). table_of h.parts) (sym b.has_heap.is) ∙ b.table in
@@ -207,7 +207,7 @@ started_by heap setup (Some parts) is some unspent =
     (parts, same, (let e : parts.setup ≡ setup = cc in e))
 
 -- Session and heap stand behind a command that left this store, where settings and types of the heap stayed.
-stands_behind : (session mid : SessionSeen) (heap started new : HeapSeen) (at : Progress) (store : Store) → Begins session mid heap started
+pub stands_behind : (session mid : SessionSeen) (heap started new : HeapSeen) (at : Progress) (store : Store) → Begins session mid heap started
     → setup_in new ≡ setup_in started → new.is_spent ≡ started.is_spent → StandsFor new store → StandsAt session heap at
     → StandsAt mid new (after_command at store)
 stands_behind session mid heap started new at store b setup_stays spent_stays for stands =
@@ -259,23 +259,9 @@ does_command session mid heap started new at command before after accepted b doe
     }
 
 -- no block
-leaves_none : (makes : Bool) (settings : Settings) (store : Store) → LeavesStore makes settings store store
+pub leaves_none : (makes : Bool) (settings : Settings) (store : Store) → LeavesStore makes settings store store
 leaves_none true settings store = NoBlock
 leaves_none false settings store = refl
-
--- memory ran out in a command, and nothing was done but that the heap was started
-pub leaves_command : (session mid : SessionSeen) (heap started new : HeapSeen) (at : Progress) (command : Command) (before after : List Line) (fault : RunFault)
-    → fault ≡ OutOfMemory → Begins session mid heap started → Keeps started new → KeepsFront before after → StandsAt session heap at
-    → Answers at (CommandItem command) mid new before after (Err fault)
-unfolding LeavesOff
-leaves_command session mid heap started new at command before after fault is b keeps front stands = rw is (
-  front,
-  inr (record {
-    next = after_command at at.store;
-    leaves = inr (at.store, leaves_none (makes_blocks command) at.setup.settings at.store, refl);
-    stands = stands_behind session mid heap started new at at.store b keeps.setup keeps.same_spent (keeps.stands at.store (b.stores at.store stands.store)) stands;
-  }),
-)
 
 stays_at : (at : Progress) (item : Item) → LeavesOff at item at
 unfolding LeavesOff

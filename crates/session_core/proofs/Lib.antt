@@ -4,3 +4,4 @@ pub mod Looks
 pub mod Items
 pub mod Places
 pub mod Performing
+pub mod Collecting

@@ -1,14 +1,17 @@
 -- The commands by what they work on.
 use Rattle.std.specs.Prelude.{Bool, true, false, ◌||◌}
 use Rattle.text_model.specs.declared.command.Command.{Command}
-use Rattle.text_model.specs.declared.command.Command.TheVariants.{NewFixed, NewArray, NewWeak, Put, Get, Link, Load, CopyRefs, MoveRoot, DropRoot, Same, Ident, Hash, Place, Pin, Unpin, Deref, Register, NextFinal, Used}
+use Rattle.text_model.specs.declared.command.Command.TheVariants.{NewFixed, NewArray, NewWeak, Put, Get, Link, Load, CopyRefs, MoveRoot, DropRoot, Same, Ident, Hash, Place, Pin, Unpin, Deref, Register, NextFinal, Minor, Step, Collect, Used}
 
--- births
-abbrev pub is_birth : Command → Bool
-is_birth (NewFixed root type_id) = true
-is_birth (NewArray root type_id len) = true
-is_birth (NewWeak root type_id target) = true
-is_birth command = false
+-- births and collections
+abbrev pub may_collect : Command → Bool
+may_collect (NewFixed root type_id) = true
+may_collect (NewArray root type_id len) = true
+may_collect (NewWeak root type_id target) = true
+may_collect Minor = true
+may_collect Step = true
+may_collect Collect = true
+may_collect command = false
 
 -- items of objects, root slots, and the words in use
 abbrev pub is_on_objects : Command → Bool
@@ -39,9 +42,9 @@ is_on_finalizers (Register root queue) = true
 is_on_finalizers (NextFinal to queue) = true
 is_on_finalizers command = false
 
--- births, and what works on objects and slots
+-- births, collections, and what works on objects and slots
 abbrev pub is_early : Command → Bool
-is_early command = is_birth command || is_on_objects command
+is_early command = may_collect command || is_on_objects command
 
 -- these, and identities and pins
 abbrev pub is_middle : Command → Bool

@@ -2,3 +2,4 @@ pub mod Seen
 pub mod Blocks
 pub mod Standing
 pub mod Commands
+pub mod Ends

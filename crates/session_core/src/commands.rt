@@ -2,14 +2,16 @@
 ghost use Rattle.std.specs.Prelude.{◌≡◌, ◌<◌, false, IfErr, OnOk, OnErr, vec_len, vec_capacity};
 ghost use Rattle.heap_core.specs.declared.fault.HeapFault.TheVariants.{OutOfMemory};
 ghost use Rattle.heap_core.specs.Commands.{CanDo, Performs, Keeps};
-ghost use Rattle.session_core.specs.Commands.{is_birth, is_early, is_middle, is_no_struct};
+ghost use Rattle.session_core.specs.Commands.{may_collect, is_early, is_middle, is_no_struct};
 ghost use Rattle.session_core.specs.Standing.{KeepsFront};
+ghost use Rattle.session_core.specs.Ends.{EndsCommand};
 
 use heap_core::{Dec, Heap, HeapFault};
 use store_model::{Command, Line};
 
-/// Does a command that is not refused, and appends its lines. Where memory runs out, the heap stands where it stood, and the
-/// old lines stand in front.
+/// Does a command that is not refused, and appends its lines. Those of the collections before a birth that the limit refuses are
+/// appended too. Where memory runs out, the heap is spent or stands where whole blocks of collections led, and the old lines
+/// stand in front.
 pub(crate) fn do_command(
     heap: &mut Heap,
     command: &Command,
@@ -17,10 +19,7 @@ pub(crate) fn do_command(
 ) -> Result<(), HeapFault>
     requires can { CanDo heap.old command.now }
     requires alive { heap.old.is_spent ≡ false }
-    ensures performs { OnOk result (Performs heap.old heap.new command.now out.old.items out.new.items) }
-    ensures err { OnErr result (Keeps heap.old heap.new) }
-    ensures err_out { OnErr result (KeepsFront out.old.items out.new.items) }
-    ensures cause { IfErr result (λ fault. fault ≡ OutOfMemory) }
+    ensures { EndsCommand command.now heap.old heap.new out.old.items out.new.items result }
 {
     match *command {
         Command::NewFixed { root, type_id } => heap.new_fixed(root, type_id, out),
@@ -33,19 +32,30 @@ pub(crate) fn do_command(
         Command::Minor => heap.minor(out),
         Command::Step => heap.step(out),
         Command::Collect => heap.collect(out),
-        _ => {
-            out.reserve(1)?;
-            on_objects(heap, command, out)
-        }
+        _ => do_at_once(heap, command, out),
     }
 }
 
-/// The same of a command that bears nothing: it prints one line at most, for which there is room.
+/// The same of a command that makes no collection. Where memory runs out, the heap stands where it stood.
+fn do_at_once(heap: &mut Heap, command: &Command, out: &mut Vec<Line>) -> Result<(), HeapFault>
+    requires can { CanDo heap.old command.now }
+    requires alive { heap.old.is_spent ≡ false }
+    requires rest { may_collect command.now ≡ false }
+    ensures performs { OnOk result (Performs heap.old heap.new command.now out.old.items out.new.items) }
+    ensures err { OnErr result (Keeps heap.old heap.new) }
+    ensures err_out { OnErr result (KeepsFront out.old.items out.new.items) }
+    ensures cause { IfErr result (λ fault. fault ≡ OutOfMemory) }
+{
+    out.reserve(1)?;
+    on_objects(heap, command, out)
+}
+
+/// The same where there is room for the one line that such a command prints at most.
 fn on_objects(heap: &mut Heap, command: &Command, out: &mut Vec<Line>) -> Result<(), HeapFault>
     requires can { CanDo heap.old command.now }
     requires alive { heap.old.is_spent ≡ false }
     requires room { vec_len out.old < vec_capacity out.old }
-    requires rest { is_birth command.now ≡ false }
+    requires rest { may_collect command.now ≡ false }
     ensures performs { OnOk result (Performs heap.old heap.new command.now out.old.items out.new.items) }
     ensures err { OnErr result (Keeps heap.old heap.new) }
     ensures err_out { OnErr result (KeepsFront out.old.items out.new.items) }

@@ -1,7 +1,8 @@
 use Rattle.std.proofs.Common.{ap, ◌∙◌}
 use Rattle.text_model.specs.declared.item.Item.TheVariants.{Command as CommandItem}
 use Rattle.session_core.specs.Standing.{fault_told}
-use Rattle.session_core.proofs.Items.{can_do, does_command, leaves_command, leaves_item}
+use Rattle.session_core.proofs.Items.{can_do, does_command, leaves_item}
+use Rattle.session_core.proofs.Collecting.{answers_fault, fails_alive}
 use Rattle.session_core.proofs.session.Session.command.Goals as goal
 
 pub returns-in-Err : goal.returns-in-Err
@@ -12,14 +13,17 @@ returns-in-Err c = λ at stands.
 pub returns-in-Ok-do_command : goal.returns-in-Ok-do_command
 returns-in-Ok-do_command c = λ at stands.
     does_command c.args.self.now c.begin.new.self c.args.heap.now c.begin.new.heap c.do_command.new.heap at c.args.command.now
-    c.args.out.now.items c.do_command.new.out.items c.requires.accepted c.in-Ok.ensures.begins c.in-Ok-do_command.ensures.performs stands
+    c.args.out.now.items c.do_command.new.out.items c.requires.accepted c.in-Ok.ensures.begins c.in-Ok-do_command.ensures stands
 
 pub returns-in-Err-do_command : goal.returns-in-Err-do_command
 returns-in-Err-do_command c = λ at stands.
-    leaves_command c.args.self.now c.begin.new.self c.args.heap.now c.begin.new.heap c.do_command.new.heap at c.args.command.now
-    c.args.out.now.items c.do_command.new.out.items c.run_fault-in-Err-do_command.result
-    (c.run_fault-in-Err-do_command.ensures ∙ ap fault_told c.in-Err-do_command.ensures.cause)
-    c.in-Ok.ensures.begins c.in-Err-do_command.ensures.err c.in-Err-do_command.ensures.err_out stands
+    rw c.run_fault-in-Err-do_command.ensures
+    (answers_fault c.args.self.now c.begin.new.self c.args.heap.now c.begin.new.heap c.do_command.new.heap at c.args.command.now c.in-Ok.ensures.begins stands
+    c.args.out.now.items c.do_command.new.out.items c.in-Err-do_command.fault c.requires.accepted c.in-Err-do_command.ensures)
+
+pub run_fault-requires-in-Err-do_command : goal.run_fault-requires-in-Err-do_command
+run_fault-requires-in-Err-do_command c =
+    fails_alive c.begin.new.heap c.do_command.new.heap c.args.command.now c.args.out.now.items c.do_command.new.out.items c.in-Err-do_command.fault c.in-Err-do_command.ensures
 
 pub do_command-requires-clause-can : goal.do_command-requires-clause-can
 do_command-requires-clause-can c =
