@@ -35,7 +35,7 @@ use Rattle.minor_collect.specs.Calls.{Stage, Spot, Middle, Survived, remembered_
 use Rattle.minor_collect.specs.Drops.{Drops}
 use Rattle.minor_collect.specs.Ending.{DoDiffer, ended_parts, left_places, stays}
 use Rattle.minor_collect.specs.Finishes.{Finishes}
-use Rattle.minor_collect.specs.Gives.{GaveAll}
+use Rattle.minor_collect.specs.Gives.{GaveAll, KeepsMade}
 use Rattle.minor_collect.specs.Gray.{QueuesWritten}
 use Rattle.minor_collect.specs.Homes.{GivesHomes}
 use Rattle.minor_collect.specs.Lines.{TellsLoss}
@@ -51,7 +51,6 @@ use Rattle.minor_collect.proofs.DropLaws.{dropped_change, weaks_passed, gave_all
 use Rattle.minor_collect.proofs.Ended.{no_both, remains, young_pinned}
 use Rattle.minor_collect.proofs.Finished.{minor_finished}
 use Rattle.minor_collect.proofs.GivesAfter.{IsMiddleButGray, queued_change, giving_of, passed_lies, places_differ}
-use Rattle.minor_collect.proofs.KeepsMade.{KeepsMade}
 use Rattle.minor_collect.proofs.LossTold.{loss_told}
 use Rattle.minor_collect.proofs.PassLaws.{clears_weaks}
 use Rattle.minor_collect.proofs.QueuedFrom.{queues_written, queues_quiet}
@@ -80,7 +79,7 @@ module _ {stage : Stage} {moved queued dropped remade taken : HeapParts} {moving
     (young : YoungHeld stage.store.kept stage.store.settled (remembered_at stage))
     (took : TookAll stage.start taken spans) (s : Survived stage moved moving) (found : FindsVanished stage s.after moved dead destroyed)
     (marks : moved.phase ≡ Marking → Queues moved queued (visited_places moved spans)) (quiet : (moved.phase ≡ Marking → ⊥) → queued ≡ moved)
-    (d : Drops queued dropped dead [] cleared) (made : KeepsMade d.passed.old_blocks d.gave.old_blocks d.passed.memory d.gave.memory) (r : Remakes dropped remade) where
+    (d : Drops queued dropped dead [] cleared) (r : Remakes dropped remade) where
   weaks : moved.weaks ≡ stage.start.weaks
   weaks = ap (λ (h : HeapParts). h.weaks) s.only
 
@@ -126,6 +125,9 @@ module _ {stage : Stage} {moved queued dropped remade taken : HeapParts} {moving
 
   gave : GaveAll (giving_of s.standing.middle.mid weaks queued.gray (weaks_passed queued_middle found d)) d.passed d.gave dead
   gave = gave_all queued_middle found d
+
+  numbers : KeepsMade d.passed.old_blocks d.gave.old_blocks d.passed.memory d.gave.memory
+  numbers = gave.made
 
   gives-homes : GivesHomes stage.start.setup.types stage.start.setup.settings.page (word_in d.passed) (pinned_places stage.start) s.after.placing.places s.after.placing.husks s.after.placing.waiting
       (home_in (with_changing stage.start (changing_of moved))) (home_in (with_changing stage.start change)) change.old_blocks change.memory gave.after.waiting
@@ -204,7 +206,7 @@ module _ {stage : Stage} {moved queued dropped remade taken : HeapParts} {moving
     nursery_is = refl;
     laid_out = subst IsLaidOut (ap (λ (h : HeapParts). h.nursery) remade-is) r.laid_out;
     sorted_are = subst (λ (h : HeapParts). IsPermutation r.sorted (pinned_places h)) (dropped_rest queued_middle found d) r.sorted_are;
-    nursery_whole = made.lies stage.start.nursery.words (passed_lies mid_now weaks queued.gray (weaks_passed queued_middle found d) 1 stage.start.nursery.words mid_now.words.nursery_whole);
+    nursery_whole = numbers.lies stage.start.nursery.words (passed_lies mid_now weaks queued.gray (weaks_passed queued_middle found d) 1 stage.start.nursery.words mid_now.words.nursery_whole);
     remembered_is = refl;
     held_whole = s.standing.held;
     slots_same = refl;
@@ -218,9 +220,9 @@ module _ {stage : Stage} {moved queued dropped remade taken : HeapParts} {moving
       words = mid_now.made.words;
       pins = mid_now.made.pins;
       card = mid_now.made.card;
-      arena = made.arena ∙ (ap (λ (k : Memory). k.arena_words) (weaks_passed queued_middle found d).targets.rest ∙ mid_now.made.arena);
-      small = made.sizes.small ∙ (ap (λ (h : HeapParts). greatest_small h.old_blocks) (weaks_passed queued_middle found d).only ∙ mid_now.made.small);
-      page = made.sizes.page ∙ (ap (λ (h : HeapParts). page_size h.old_blocks) (weaks_passed queued_middle found d).only ∙ mid_now.made.page);
+      arena = numbers.arena ∙ (ap (λ (k : Memory). k.arena_words) (weaks_passed queued_middle found d).targets.rest ∙ mid_now.made.arena);
+      small = numbers.sizes.small ∙ (ap (λ (h : HeapParts). greatest_small h.old_blocks) (weaks_passed queued_middle found d).only ∙ mid_now.made.small);
+      page = numbers.sizes.page ∙ (ap (λ (h : HeapParts). page_size h.old_blocks) (weaks_passed queued_middle found d).only ∙ mid_now.made.page);
     };
   }
 

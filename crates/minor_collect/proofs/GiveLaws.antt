@@ -11,7 +11,7 @@ use Rattle.heap_space.specs.Extents.{Extent, KeepsWords, KeepsOutside}
 use Rattle.object_view.specs.Views.{HasObject}
 use Rattle.object_view.proofs.LayoutLaws.{keeps-same}
 use Rattle.old_space.specs.Calls.{still_waiting}
-use Rattle.old_space.specs.HasBlocks.{HasBlocks, IsLive}
+use Rattle.old_space.specs.HasBlocks.{HasBlocks, IsLive, KeepsSizes}
 use Rattle.old_space.specs.declared.Old.{Old}
 use Rattle.old_space.proofs.JoinLaws.{HasBlocks_permuted}
 use Rattle.object_model.specs.Layout.{Layout}
@@ -25,6 +25,7 @@ use Rattle.minor_collect.specs.Gives.{Giving, GivesSome, GaveOne}
 use Rattle.minor_collect.specs.Homes.{GivesHomes}
 use Rattle.minor_collect.proofs.EndBlocks.{without_home, blocks-taken}
 use Rattle.minor_collect.proofs.HomesBack.{homes_step}
+use Rattle.minor_collect.proofs.KeepsMade.{made_none, made_one}
 use Rattle.minor_collect.proofs.SameMembers.{part_differs}
 use Rattle.minor_collect.proofs.TakeRoom.{lies-kept}
 
@@ -43,14 +44,15 @@ module _ {giving : Giving} {now : HeapParts} (g : GivesSome giving now) (p : ℕ
   }
 
   pub gave_none : home_in now p ≡ None → GaveOne giving now now p
-  gave_none e = record { after = g; only = refl; none = e; fewer = λ q at t. t }
+  gave_none e = record { after = g; only = refl; none = e; fewer = λ q at t. t; made = made_none now.old_blocks now.memory }
 
   module _ (unpinned : is_in p giving.pins ≡ false) (home n : ℕ) (m : Memory) (shadows : FinMap nat_cmp ℕ) (old : Old) (is : home_in now p ≡ Some home)
       (size : n ≡ words_at now.setup.types (word_at now.memory.blocks) p)
       (given : (live : List Extent) (waits : List ℕ) → HasBlocks now.old_blocks now.memory ((home, n) ∷ live) waits → HasBlocks old m live (still_waiting home waits))
       (kept : (live : List Extent) (waits : List ℕ) → HasBlocks now.old_blocks now.memory ((home, n) ∷ live) waits → KeepsWords now.memory m live)
       (outside : KeepsOutside 4294967296 9223372036854775808 now.memory m)
-      (none : map_of.get shadows p ≡ None) (other : (q : ℕ) → q ≢ p → map_of.get shadows q ≡ home_in now q) where
+      (none : map_of.get shadows p ≡ None) (other : (q : ℕ) → q ≢ p → map_of.get shadows q ≡ home_in now q)
+      (arena : m.arena_words ≡ now.memory.arena_words) (sizes : KeepsSizes now.old_blocks old) where
     gives : GivesHomes now.setup.types now.setup.settings.page giving.word giving.pins giving.places giving.husks giving.waiting giving.home (λ q. map_of.get shadows q) old m (still_waiting home g.waiting)
     gives = homes_step g.gives p home giving.most (λ q. map_of.get shadows q) old m is there unpinned g.differ g.page g.inside g.small
         (λ live waits has. given live waits (subst (λ (k : ℕ). HasBlocks now.old_blocks now.memory ((home, k) ∷ live) waits) (sym size) has))
@@ -78,4 +80,5 @@ module _ {giving : Giving} {now : HeapParts} (g : GivesSome giving now) (p : ℕ
         | inl e ↦ absurd (let bad : None ≡ Some at = sym none ∙ (ap (λ (k : ℕ). map_of.get shadows k) (sym e.1) ∙ t) in let no : ⊥ = cc in no)
         | inr e ↦ sym (other q e.1) ∙ t
       ];
+      made = made_one outside arena sizes;
     }

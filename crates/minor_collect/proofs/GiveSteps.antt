@@ -5,13 +5,14 @@ use Rattle.object_model.proofs.Members.{is_in-nil, is_in-cases, in-either}
 use Rattle.heap_parts.specs.Parts.{HeapParts, home_in}
 use Rattle.heap_parts.specs.Places.{young_places}
 use Rattle.minor_collect.specs.Gives.{Giving, GivesSome, CanGive, GaveOne, AreGone, CanGiveAll, GaveAll}
+use Rattle.minor_collect.proofs.KeepsMade.{made_none, made_twice}
 
 -- so far those of these places were given back
 pub record GivesTo (old now : HeapParts) (dead done : List ℕ) : Type 0 where
   pub each : (giving : Giving) → GivesSome giving old → AreGone giving dead → GaveAll giving old now done
 
 pub gives_none : (heap : HeapParts) (dead : List ℕ) → GivesTo heap heap dead []
-gives_none heap dead = record { each = λ giving g gone. record { after = g; only = refl; none = λ p t. absurd (is_in-nil p t); fewer = λ q at t. t } }
+gives_none heap dead = record { each = λ giving g gone. record { after = g; only = refl; none = λ p t. absurd (is_in-nil p t); fewer = λ q at t. t; made = made_none heap.old_blocks heap.memory } }
 
 pub gives_can : (old now : HeapParts) (dead done : List ℕ) (q : ℕ) → CanGiveAll old dead → GivesTo old now dead done → IsTrue (is_in q dead) → CanGive now q
 gives_can old now dead done q c s t = record { giving = c.giving; gives = (s.each c.giving c.gives c.gone).after; there = (c.gone q t).0; unpinned = (c.gone q t).1 }
@@ -36,5 +37,6 @@ gives_more old now new dead done q s t step = record {
           ]
         ];
         fewer = λ p at u. a.fewer p at (b.fewer p at u);
+        made = made_twice a.made b.made;
       };
 }

@@ -1,17 +1,11 @@
 -- Where homes are given back, the numbers stay that memory and blocks were made with, and the words of the nursery lie together.
-use Rattle.std.proofs.Common.{◌≡◌, ℕ, ◌≤◌, IsTrue, refl, ◌∙◌, arith}
-use Rattle.heap_space.specs.Places.{lies_in_one}
+use Rattle.std.proofs.Common.{◌≡◌, ◌≤◌, refl, ◌∙◌, arith}
 use Rattle.heap_space.specs.Memory.{Memory}
 use Rattle.heap_space.specs.Extents.{KeepsOutside}
 use Rattle.old_space.specs.HasBlocks.{KeepsSizes}
 use Rattle.old_space.specs.declared.Old.{Old}
+use Rattle.minor_collect.specs.Gives.{KeepsMade}
 use Rattle.minor_collect.proofs.TakeRoom.{lies-kept}
-
--- blocks below 2^32 lie where they lay, and numbers stay
-pub record KeepsMade (old_blocks new_blocks : Old) (old new : Memory) : Type 0 where
-  pub lies : (n : ℕ) → IsTrue (lies_in_one old.blocks 1 n) → IsTrue (lies_in_one new.blocks 1 n)
-  pub arena : new.arena_words ≡ old.arena_words
-  pub sizes : KeepsSizes old_blocks new_blocks
 
 -- where none was given back
 pub made_none : (old_blocks : Old) (memory : Memory) → KeepsMade old_blocks old_blocks memory memory

@@ -1,6 +1,10 @@
 -- How far homes of what is gone were given back.
 use Rattle.std.specs.Prelude.{◌≡◌, ℕ, ◌+◌, ◌<◌, ◌≤◌, false, IsTrue, List, Option, Some, None}
+use Rattle.heap_space.specs.Memory.{Memory}
+use Rattle.heap_space.specs.Places.{lies_in_one}
 use Rattle.object_view.specs.Views.{HasObject}
+use Rattle.old_space.specs.HasBlocks.{KeepsSizes}
+use Rattle.old_space.specs.declared.Old.{Old}
 use Rattle.object_model.specs.Sets.{is_in}
 use Rattle.object_model.specs.ObjectWords.{words_at}
 use Rattle.heap_parts.specs.Parts.{HeapParts, home_in}
@@ -36,12 +40,19 @@ pub record CanGive (now : HeapParts) (p : ℕ) : Type 0 where
   pub there : IsTrue (is_in p (young_places giving.places))
   pub unpinned : is_in p giving.pins ≡ false
 
+-- the blocks of the nursery lie where they lay, and the numbers stay that memory and blocks were made with
+pub record KeepsMade (old_blocks new_blocks : Old) (old new : Memory) : Type 0 where
+  pub lies : (n : ℕ) → IsTrue (lies_in_one old.blocks 1 n) → IsTrue (lies_in_one new.blocks 1 n)
+  pub arena : new.arena_words ≡ old.arena_words
+  pub sizes : KeepsSizes old_blocks new_blocks
+
 -- it was given back, if one was reserved
 pub record GaveOne (giving : Giving) (old new : HeapParts) (p : ℕ) : Type 0 where
   pub after : GivesSome giving new
   pub only : new ≡ record old { memory = new.memory; shadows = new.shadows; old_blocks = new.old_blocks }
   pub none : home_in new p ≡ None
   pub fewer : (q at : ℕ) → home_in new q ≡ Some at → home_in old q ≡ Some at
+  pub made : KeepsMade old.old_blocks new.old_blocks old.memory new.memory
 
 -- objects of the nursery that are not pinned
 abbrev pub AreGone : Giving → List ℕ → Type 0
@@ -59,3 +70,4 @@ pub record GaveAll (giving : Giving) (old new : HeapParts) (dead : List ℕ) : T
   pub only : new ≡ record old { memory = new.memory; shadows = new.shadows; old_blocks = new.old_blocks }
   pub none : (p : ℕ) → IsTrue (is_in p dead) → home_in new p ≡ None
   pub fewer : (q at : ℕ) → home_in new q ≡ Some at → home_in old q ≡ Some at
+  pub made : KeepsMade old.old_blocks new.old_blocks old.memory new.memory

@@ -26,7 +26,8 @@ returns-in-Some c = λ giving gives there unpinned.
     (gave_home {now = before} (subst (GivesSome giving) (sym c.parts.view_is) gives) c.args.p there unpinned c.in-Some.home c.view-n.result.words c.give_back.new.space c.take_home.new.self c.give_back.new.self
     (sym c.take_home.ensures.home ∙ c.in-Some.is) (ap (λ (v : ObjView). v.words) c.view-n.ensures.value) c.give_back.ensures.given c.give_back.ensures.kept c.give_back.ensures.outside
     (ap (λ (homes : map_of.FinMap nat_cmp ℕ). map_of.get homes c.args.p) c.take_home.ensures.taken ∙ removed_here before.shadows c.args.p)
-    (λ q ne. ap (λ (homes : map_of.FinMap nat_cmp ℕ). map_of.get homes q) c.take_home.ensures.taken ∙ removed_other before.shadows c.args.p q ne))
+    (λ q ne. ap (λ (homes : map_of.FinMap nat_cmp ℕ). map_of.get homes q) c.take_home.ensures.taken ∙ removed_other before.shadows c.args.p q ne)
+    c.give_back.ensures.arena_words c.give_back.ensures.sizes)
 
 pub returns-in_default : goal.returns-in_default
 returns-in_default c = λ giving gives there unpinned.
