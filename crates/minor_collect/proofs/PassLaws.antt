@@ -1,9 +1,8 @@
 -- The pass over the weak objects in the middle of a collection: what survives in it is what stays, and objects keep their layouts.
-use Rattle.std.proofs.Common.{◌≡◌, ◌≢◌, ℕ, ◌+◌, ◌<◌, ◌≤◌, ◌⊎◌, true, false, IsTrue, List, [], map, filter, refl, sym, ap, ◌∙◌, subst, inl, inr, arith}
-use Rattle.std.specs.Prelude.{◌==◌, ◌&&◌, ◌||◌, not, nat_lt, if◌then◌else◌, Bool}
+use Rattle.std.proofs.Common.{◌≡◌, ℕ, ◌+◌, ◌<◌, ◌≤◌, true, false, IsTrue, List, [], map, refl, sym, ap, ◌∙◌, subst, inl, inr, arith}
+use Rattle.std.specs.Prelude.{◌==◌, ◌&&◌, not, nat_lt, if◌then◌else◌, Bool}
 use Rattle.std.proofs.lemmas.Bool.{cases_Bool}
 use Rattle.std.proofs.lemmas.Bool.Decides.{nat_tests}
-use Rattle.heap_space.specs.Memory.{Memory}
 use Rattle.heap_space.specs.Places.{word_at}
 use Rattle.object_header.specs.Words.{has_flag}
 use Rattle.object_header.specs.declared.flags.Flag.TheVariants.{Pinned}
@@ -59,7 +58,7 @@ module _ {start : HeapParts} {store : Store} {remembered : ℕ → ℕ → Bool}
   gone_same x (inr t) = ap (λ (b : Bool). not (x == 0) && not b) (survives_lasting (place_now (word_at now.memory.blocks) x) (now_place mid.words.objects mid.words.moving x t).0)
 
   module _ {passed : HeapParts} {told_old told_new : List ℕ} (same : now.weaks ≡ start.weaks) (gray : List ℕ)
-    (passes : PassesWeaks (with_changing start (record now { gray = gray })) passed told_old told_new) where
+      (passes : PassesWeaks (with_changing start (record now { gray = gray })) passed told_old told_new) where
     -- the list is that of the weak objects that stay
     pub left_are : passed.weaks ≡ weaks_left (word_at now.memory.blocks) (pinned_places start) start.weaks
     left_are =
