@@ -1,6 +1,11 @@
-use Rattle.std.proofs.Common.{◌≡◌, ◌+◌, ◌<◌, ◌^◌, ℕ, ap, sym, subst}
+use Rattle.std.proofs.Common.{◌≡◌, ◌+◌, ◌<◌, ◌^◌, ℕ, List, length, ap, sym, ◌∙◌, subst}
+use Rattle.object_model.specs.Sets.{is_in}
+use Rattle.store_model.specs.Links.{link_ends}
 use Rattle.minor_collect.specs.declared.work.Moving.{Moving}
-use Rattle.minor_collect.proofs.MinorSteps.{can_begin, can_give, can_pass_weaks, can_remake_last, room_for_moved}
+use Rattle.minor_collect.specs.Drops.{Drops}
+use Rattle.minor_collect.specs.Minor.{Closes}
+use Rattle.minor_collect.proofs.MinorCollects.{minor_collects}
+use Rattle.minor_collect.proofs.MinorSteps.{can_begin, can_give, can_pass_weaks, can_remake_last, lines_joined, room_for_moved}
 use Rattle.minor_collect.proofs.SurvivorCounts.{counts_told}
 use Rattle.minor_collect.proofs.collection.minor.Goals as goal
 
@@ -22,7 +27,14 @@ close_nursery-requires-clause-room c =
     (room_for_moved c.requires.can c.in_ok-separate.ensures.separates (can_give _ c.requires.can c.in_ok-separate.ensures.separates) c.in_ok-vanished.ensures.drops)
 
 pub returns-clause-collects : goal.returns-clause-collects
-returns-clause-collects c = ?
+returns-clause-collects c =
+    let none = c.in_ok-separate.ensures.cleared ∙ c.clear.ensures.cleared in
+    let drops = subst (λ (told : List ℕ). Drops c.separate.new.parts c.drop_vanished.new.parts c.separate.new.lists.dead.items told c.drop_vanished.new.lists.cleared.items) none c.in_ok-vanished.ensures.drops in
+    let closes = subst (λ (moving : Moving). Closes c.drop_vanished.new.parts c.close_nursery.new.parts moving.words) c.in_ok-vanished.ensures.moving c.in_ok-close_nursery.ensures in
+    minor_collects c.requires.can c.in_ok-separate.ensures.separates drops closes
+    (lines_joined c.args.events.now.items c.separate.new.lists.moving.objects (length c.separate.new.lists.dead.items) c.drop_vanished.new.lists.cleared.items c.separate.new.lists.destroyed.items
+    (link_ends (λ (object : ℕ). is_in object c.separate.new.lists.dead.items) c.separate.new.parts.links.structs)
+    c.in_ok-vanished.ensures.lines c.in_ok-vanished.ensures.ends (c.in_ok-separate.ensures.ends ∙ c.clear.ensures.ends))
 
 pub returns-clause-counts : goal.returns-clause-counts
 returns-clause-counts c = λ store stands. counts_told c.in_ok-separate.ensures.separates c.in_ok-vanished.ensures.moving c.in_ok-vanished.ensures.vanished store stands
