@@ -1,34 +1,26 @@
 -- The nursery can be made anew around pinned objects that have their words of some middle. (`can_remake_dropped` of DropLaws is what
 -- `remake_nursery` asks for, right after `drop_vanished`.)
-use Rattle.std.proofs.Common.{◌≡◌, ℕ, suc, ◌+◌, ◌*◌, ◌<◌, ◌≤◌, Bool, false, IsTrue, List, [], ◌∷◌, map, length, nat_eq, refl, sym, ap, ◌∙◌, subst, inl, inr, arith}
-use Rattle.std.specs.Prelude.{sum_by, ◌^◌}
+use Rattle.std.proofs.Common.{◌≡◌, ℕ, suc, ◌+◌, ◌*◌, ◌≤◌, Bool, false, IsTrue, List, [], ◌∷◌, map, length, nat_eq, refl, sym, ap, ◌∙◌, subst, inl, inr, arith}
+use Rattle.std.specs.Prelude.{sum_by}
 use Rattle.std.specs.List.{IsDistinct, AllByRecursion}
 use Rattle.std.proofs.lemmas.Bool.{cases_lt}
 use Rattle.std.proofs.lemmas.Bool.Decides.{eqb_tells}
 use Rattle.std.proofs.lemmas.List.Sums.{sum_by-cons}
 use Rattle.heap_space.specs.Places.{word_at}
 use Rattle.object_view.specs.Views.{HasObject}
-use Rattle.object_view.proofs.LayoutLaws.{laid_out, SameAt, keeps-same}
-use Rattle.object_model.specs.Layout.{Layout}
+use Rattle.object_view.proofs.LayoutLaws.{laid_out}
 use Rattle.object_model.specs.Sets.{is_in}
 use Rattle.object_model.specs.ObjectWords.{words_at}
 use Rattle.object_model.proofs.Members.{is_in-head, is_in-tail}
 use Rattle.store_model.specs.Store.{Store}
-use Rattle.store_model.specs.Links.{cut_links}
 use Rattle.store_model.specs.Sound.{ArePinsSound}
 use Rattle.birth_laws.proofs.BirthNames.{entries-names}
-use Rattle.heap_parts.specs.Parts.{HeapParts, word_in, home_in, pinned_places}
+use Rattle.heap_parts.specs.Parts.{HeapParts, pinned_places}
 use Rattle.heap_parts.specs.Places.{young_places}
 use Rattle.frame_laws.proofs.PlaceLaws.{young-is_in}
 use Rattle.minor_collect.specs.Carried.{Moved}
-use Rattle.minor_collect.specs.Midway.{Midway, Changing, with_changing, changing_of, Owes, Placing}
-use Rattle.minor_collect.specs.Calls.{Stage, Spot, Middle}
-use Rattle.minor_collect.specs.Drops.{Drops}
-use Rattle.minor_collect.specs.Gives.{GaveAll}
+use Rattle.minor_collect.specs.Midway.{Midway, Changing, Owes, Placing}
 use Rattle.minor_collect.specs.Remade.{CanRemake, words_of}
-use Rattle.minor_collect.specs.Vanished.{FindsVanished}
-use Rattle.minor_collect.specs.WeakPass.{PassesWeaks}
-use Rattle.minor_collect.proofs.GivesAfter.{giving_of, gives_some, gone_young, passed_size}
 
 -- places of which the names differ
 distinct-places : (name : ℕ → ℕ) (ps : List ℕ) → IsDistinct nat_eq (map name ps) → IsDistinct nat_eq ps

@@ -1,24 +1,23 @@
 -- All steps of a minor collection, joined: a minor collection of the store, and what the code counts is what moved.
-use Rattle.std.proofs.Common.{◌≡◌, ℕ, ◌+◌, ◌<◌, ◌≤◌, ◌⊎◌, Bool, true, false, IsTrue, List, [], ◌∷◌, ◌++◌, map, filter, length, Option, Some, None, nat_eq, refl, sym, ap, ◌∙◌, subst, inl, inr, arith}
-use Rattle.std.specs.Prelude.{not, ◌||◌, nat_lt, filter_map, sum_by}
+use Rattle.std.proofs.Common.{◌≡◌, ℕ, ◌+◌, ◌<◌, ◌⊎◌, false, IsTrue, List, [], ◌∷◌, ◌++◌, map, length, Some, None, nat_eq, refl, sym, ap, ◌∙◌, subst, inl, inr, arith}
+use Rattle.std.specs.Prelude.{not, nat_lt, sum_by}
 use Rattle.std.specs.List.{IsDistinct}
 use Rattle.std.specs.List.Sorted.{IsPermutation}
 use Rattle.std.proofs.lemmas.Bool.{cases_Bool}
 use Rattle.std.proofs.lemmas.List.Sorted.{sum_by-IsPermutation}
 use Rattle.heap_space.specs.Memory.{Memory}
-use Rattle.heap_space.specs.Places.{word_at, lies_in_one}
+use Rattle.heap_space.specs.Places.{word_at}
 use Rattle.nursery_gaps.specs.Nursery.{Layout as NurseryLayout, IsLaidOut}
 use Rattle.old_space.specs.HasBlocks.{greatest_small, page_size}
 use Rattle.object_model.specs.ObjectWords.{words_at}
 use Rattle.object_model.specs.Sets.{is_in}
-use Rattle.object_model.proofs.Members.{false-in, is_in-nil}
+use Rattle.object_model.proofs.Members.{false-in}
 use Rattle.text_model.specs.declared.line.Phase.{Phase}
 use Rattle.text_model.specs.declared.line.Phase.TheVariants.{Scanning, Marking, Sweeping, Finalizing}
 use Rattle.text_model.specs.declared.line.Line.{Line}
 use Rattle.text_model.specs.declared.line.Line.TheVariants.{MinorDone, Cleared, Destroyed, LinkCut}
 use Rattle.remember_cards.specs.declared.Span.{Span}
-use Rattle.remember_cards.specs.Remembered.{is_held_of}
-use Rattle.store_model.specs.Links.{cut_links, link_ends}
+use Rattle.store_model.specs.Links.{link_ends}
 use Rattle.store_model.specs.MarkingOrder.{YoungHeld}
 use Rattle.store_model.specs.MinorCollection.{MinorCollection}
 use Rattle.store_model.specs.Sound.{IsPhaseSound}
@@ -30,10 +29,9 @@ use Rattle.heap_parts.specs.Places.{is_young, young_places, old_places, block_at
 use Rattle.frame_laws.proofs.Births.{rise-differ}
 use Rattle.frame_laws.proofs.PlaceLaws.{is_in-young, young-is_in}
 use Rattle.minor_collect.specs.declared.work.Moving.{Moving}
-use Rattle.minor_collect.specs.Carried.{Moved}
-use Rattle.minor_collect.specs.Calls.{Stage, Spot, Middle, Survived, remembered_at, linked_places}
+use Rattle.minor_collect.specs.Calls.{Stage, Spot, Survived, remembered_at, linked_places}
 use Rattle.minor_collect.specs.Drops.{Drops}
-use Rattle.minor_collect.specs.Ending.{DoDiffer, ended_parts, left_places, stays}
+use Rattle.minor_collect.specs.Ending.{ended_parts, left_places, stays}
 use Rattle.minor_collect.specs.Finishes.{Finishes}
 use Rattle.minor_collect.specs.Gives.{GaveAll, KeepsMade}
 use Rattle.minor_collect.specs.Gray.{QueuesWritten}
@@ -45,12 +43,11 @@ use Rattle.minor_collect.specs.Remade.{Remakes, words_of}
 use Rattle.minor_collect.specs.Spans.{TookAll}
 use Rattle.minor_collect.specs.Vanished.{FindsVanished}
 use Rattle.minor_collect.specs.Walks.{births_destroyed}
-use Rattle.minor_collect.proofs.Begins.{not-lasting}
 use Rattle.minor_collect.proofs.CountLaws.{sum_member, words_moved}
 use Rattle.minor_collect.proofs.DropLaws.{dropped_change, weaks_passed, gave_all, gave_rest, dropped_rest}
 use Rattle.minor_collect.proofs.Ended.{no_both, remains, young_pinned}
 use Rattle.minor_collect.proofs.Finished.{minor_finished}
-use Rattle.minor_collect.proofs.GivesAfter.{IsMiddleButGray, queued_change, giving_of, passed_lies, places_differ}
+use Rattle.minor_collect.proofs.GivesAfter.{IsMiddleButGray, queued_change, giving_of, passed_lies}
 use Rattle.minor_collect.proofs.LossTold.{loss_told}
 use Rattle.minor_collect.proofs.PassLaws.{clears_weaks}
 use Rattle.minor_collect.proofs.QueuedFrom.{queues_written, queues_quiet}
@@ -126,8 +123,8 @@ module _ {stage : Stage} {moved queued dropped remade taken : HeapParts} {moving
   gave : GaveAll (giving_of s.standing.middle.mid weaks queued.gray (weaks_passed queued_middle found d)) d.passed d.gave dead
   gave = gave_all queued_middle found d
 
-  made : KeepsMade d.passed.old_blocks d.gave.old_blocks d.passed.memory d.gave.memory
-  made = gave.made
+  numbers : KeepsMade d.passed.old_blocks d.gave.old_blocks d.passed.memory d.gave.memory
+  numbers = gave.made
 
   gives-homes : GivesHomes stage.start.setup.types stage.start.setup.settings.page (word_in d.passed) (pinned_places stage.start) s.after.placing.places s.after.placing.husks s.after.placing.waiting
       (home_in (with_changing stage.start (changing_of moved))) (home_in (with_changing stage.start change)) change.old_blocks change.memory gave.after.waiting
@@ -154,9 +151,6 @@ module _ {stage : Stage} {moved queued dropped remade taken : HeapParts} {moving
     | inl l ↦ false-in p dead (λ u. no_both (is_lasting (pinned_places stage.start) p) l (found.just p u).1) ∙ ap not (sym l)
     | inr l ↦ found.all p (s.standing.linked p t) l ∙ ap not (sym l)
   ]
-
-  abbrev left : List ℕ
-  left = left_places stage.store s.after.placing.found s.after.placing.name s.after.placing.places
 
   -- the pinned objects are those that are left in the nursery
   pins-young : IsPermutation (pinned_places stage.start) (young_places (left_places stage.store s.after.placing.found s.after.placing.name s.after.placing.places))
@@ -206,7 +200,7 @@ module _ {stage : Stage} {moved queued dropped remade taken : HeapParts} {moving
     nursery_is = refl;
     laid_out = subst IsLaidOut (ap (λ (h : HeapParts). h.nursery) remade-is) r.laid_out;
     sorted_are = subst (λ (h : HeapParts). IsPermutation r.sorted (pinned_places h)) (dropped_rest queued_middle found d) r.sorted_are;
-    nursery_whole = made.lies stage.start.nursery.words (passed_lies mid_now weaks queued.gray (weaks_passed queued_middle found d) 1 stage.start.nursery.words mid_now.words.nursery_whole);
+    nursery_whole = numbers.lies stage.start.nursery.words (passed_lies mid_now weaks queued.gray (weaks_passed queued_middle found d) 1 stage.start.nursery.words mid_now.words.nursery_whole);
     remembered_is = refl;
     held_whole = s.standing.held;
     slots_same = refl;
@@ -220,9 +214,9 @@ module _ {stage : Stage} {moved queued dropped remade taken : HeapParts} {moving
       words = mid_now.made.words;
       pins = mid_now.made.pins;
       card = mid_now.made.card;
-      arena = made.arena ∙ (ap (λ (k : Memory). k.arena_words) (weaks_passed queued_middle found d).targets.rest ∙ mid_now.made.arena);
-      small = made.sizes.small ∙ (ap (λ (h : HeapParts). greatest_small h.old_blocks) (weaks_passed queued_middle found d).only ∙ mid_now.made.small);
-      page = made.sizes.page ∙ (ap (λ (h : HeapParts). page_size h.old_blocks) (weaks_passed queued_middle found d).only ∙ mid_now.made.page);
+      arena = numbers.arena ∙ (ap (λ (k : Memory). k.arena_words) (weaks_passed queued_middle found d).targets.rest ∙ mid_now.made.arena);
+      small = numbers.sizes.small ∙ (ap (λ (h : HeapParts). greatest_small h.old_blocks) (weaks_passed queued_middle found d).only ∙ mid_now.made.small);
+      page = numbers.sizes.page ∙ (ap (λ (h : HeapParts). page_size h.old_blocks) (weaks_passed queued_middle found d).only ∙ mid_now.made.page);
     };
   }
 

@@ -1,6 +1,5 @@
 -- What is gone was let go of: the parts then, and that the nursery can be made anew. `can_remake_dropped` is what `remake_nursery` asks for.
-use Rattle.std.proofs.Common.{◌≡◌, ℕ, ◌+◌, false, IsTrue, List, [], refl, sym, ap, ◌∙◌, subst}
-use Rattle.heap_space.specs.Places.{word_at}
+use Rattle.std.proofs.Common.{◌≡◌, ℕ, IsTrue, List, refl, sym, ap, ◌∙◌, subst}
 use Rattle.object_view.specs.Views.{HasObject}
 use Rattle.object_view.proofs.LayoutLaws.{SameAt, keeps-same}
 use Rattle.object_model.specs.Layout.{Layout}
@@ -10,11 +9,11 @@ use Rattle.store_model.specs.Links.{cut_links}
 use Rattle.heap_parts.specs.Parts.{HeapParts, word_in}
 use Rattle.heap_parts.specs.Places.{young_places}
 use Rattle.frame_laws.proofs.PlaceLaws.{young-is_in}
-use Rattle.minor_collect.specs.Midway.{Changing, with_changing, changing_of}
-use Rattle.minor_collect.specs.Calls.{Stage, Spot, Middle}
+use Rattle.minor_collect.specs.Midway.{Changing, with_changing}
+use Rattle.minor_collect.specs.Calls.{Stage, Spot}
 use Rattle.minor_collect.specs.Drops.{Drops}
 use Rattle.minor_collect.specs.Gives.{GaveAll}
-use Rattle.minor_collect.specs.Remade.{CanRemake, words_of}
+use Rattle.minor_collect.specs.Remade.{CanRemake}
 use Rattle.minor_collect.specs.Vanished.{FindsVanished}
 use Rattle.minor_collect.specs.WeakPass.{PassesWeaks}
 use Rattle.minor_collect.proofs.GivesAfter.{IsMiddleButGray, queued_change, passes_from, giving_of, gives_some, gone_young, passed_size}

@@ -1,17 +1,15 @@
 -- After the pass over the weak objects the homes of what is gone can be given back. `gives_some` is that fact for the parts after the
 -- pass. `can_give_then` is what `drop_vanished` asks for: from the middle in which what is gone was listed, where only what is gray changed
 -- since (`IsMiddleButGray`: a middle has what was gray as the collection began, so that queueing for marking ends it).
-use Rattle.std.proofs.Common.{◌≡◌, ◌≢◌, ℕ, ◌+◌, ◌<◌, ◌≤◌, ◌⊎◌, Bool, true, false, IsTrue, IsSome, List, [], ◌∷◌, ◌++◌, map, refl, sym, ap, ◌∙◌, subst, inl, inr, arith}
+use Rattle.std.proofs.Common.{◌≡◌, ℕ, ◌+◌, ◌<◌, ◌≤◌, ◌⊎◌, Bool, true, false, IsTrue, List, [], ◌++◌, map, refl, sym, ap, ◌∙◌, subst, inl, inr, arith}
 use Rattle.std.specs.List.{filter}
 use Rattle.std.proofs.lemmas.Bool.{cases_Bool}
-use Rattle.std.proofs.lemmas.Bool.Decides.{nat_tests}
-use Rattle.type_table.specs.Table.{value_at}
 use Rattle.heap_space.specs.Memory.{Memory}
 use Rattle.heap_space.specs.Places.{word_at, lies_in_one}
-use Rattle.heap_space.specs.Extents.{Extent, Each, IsOutside, IsUntouched, IsApart, extent_of, lies_within, begins_between}
+use Rattle.heap_space.specs.Extents.{Extent, Each, IsUntouched, IsApart, lies_within, begins_between}
 use Rattle.heap_space.proofs.ExtentLaws.{lies_in_one-extents}
 use Rattle.object_view.specs.Views.{HasObject}
-use Rattle.object_view.proofs.LayoutLaws.{laid_out, SameAt, KeepsLayout, keeps-same}
+use Rattle.object_view.proofs.LayoutLaws.{SameAt, keeps-same}
 use Rattle.object_view.proofs.WholeLaws.{has_object-keeps}
 use Rattle.object_model.specs.Layout.{Layout}
 use Rattle.object_model.specs.Sets.{is_in}
@@ -32,7 +30,7 @@ use Rattle.minor_collect.specs.Midway.{Midway, Changing, with_changing, changing
 use Rattle.minor_collect.specs.Calls.{Stage, Spot, Middle}
 use Rattle.minor_collect.specs.Drops.{CanGiveThen}
 use Rattle.minor_collect.specs.Ending.{DoDiffer}
-use Rattle.minor_collect.specs.Gives.{Giving, GivesSome, AreGone, CanGiveAll}
+use Rattle.minor_collect.specs.Gives.{Giving, GivesSome, AreGone}
 use Rattle.minor_collect.specs.Vanished.{FindsVanished}
 use Rattle.minor_collect.specs.WeakPass.{PassesWeaks}
 use Rattle.minor_collect.proofs.Begins.{not-lasting}

@@ -1,5 +1,5 @@
 -- What the code tells of what is gone, and of targets that are, is what the lines ask for.
-use Rattle.std.proofs.Common.{◌≡◌, ℕ, suc, ◌+◌, ◌<◌, ◌≤◌, Bool, true, false, IsTrue, List, [], ◌∷◌, ◌++◌, map, filter, length, get_or, nat_eq, refl, sym, ap, ap₂, ◌∙◌, subst, inl, inr, arith}
+use Rattle.std.proofs.Common.{◌≡◌, ℕ, suc, ◌+◌, ◌<◌, ◌≤◌, Bool, false, IsTrue, List, [], ◌∷◌, map, filter, length, get_or, nat_eq, refl, sym, ap, ap₂, ◌∙◌, subst, inl, inr, arith}
 use Rattle.std.specs.List.{IsDistinct, AllByRecursion}
 use Rattle.std.specs.List.Sorted.{IsPermutation, IsNonDecreasing}
 use Rattle.std.proofs.lemmas.Bool.{ne_eqb}
@@ -13,18 +13,17 @@ use Rattle.object_model.specs.Sets.{is_in}
 use Rattle.store_model.specs.Store.{Store}
 use Rattle.weak_lists.specs.Cleared.{once_after, births_losing}
 use Rattle.weak_lists.specs.Targets as targets
-use Rattle.heap_parts.specs.Parts.{HeapParts, word_in, pinned_places}
+use Rattle.heap_parts.specs.Parts.{HeapParts, pinned_places}
 use Rattle.heap_parts.specs.Places.{is_weak_at, RiseBetween}
-use Rattle.frame_laws.proofs.Births.{rise-differ, rise-bounds}
+use Rattle.frame_laws.proofs.Births.{rise-differ, rise-bounds, rise-end}
 use Rattle.frame_laws.proofs.PlaceLaws.{named-by}
 use Rattle.minor_collect.specs.Carried.{Moved, weak_births, births_read}
 use Rattle.minor_collect.specs.Ending.{DoDiffer}
-use Rattle.minor_collect.specs.Lines.{TellsLoss, weaks_left, loses_target}
+use Rattle.minor_collect.specs.Lines.{TellsLoss, loses_target}
 use Rattle.minor_collect.specs.Midway.{Midway, Changing, with_changing, Owes, is_lasting, Placing}
 use Rattle.minor_collect.specs.Walks.{births_destroyed}
 use Rattle.minor_collect.specs.WeakPass.{PassesWeaks}
 use Rattle.minor_collect.proofs.EndBirths.{rise_part}
-use Rattle.minor_collect.proofs.GivesAfter.{places_differ}
 use Rattle.minor_collect.proofs.NamedObjects.{weak_named, eq-flips}
 use Rattle.minor_collect.proofs.PassLaws.{left_are, listed_weak, gone_same, target_pointer}
 use Rattle.minor_collect.proofs.SameMembers.{names_differ, part_differs}
@@ -97,11 +96,7 @@ module _ {start : HeapParts} {store : Store} {remembered : ℕ → ℕ → Bool}
       let n = named-by placing.name x ps (subst (λ (xs : List ℕ). IsTrue (is_in x xs)) (sym named) from) in
       rise-bounds 1 start.next x (map placing.name placing.places) mid.rise
       (subst (λ (k : ℕ). IsTrue (is_in k (map placing.name placing.places))) (sym n.is) (is_in-named placing.name n.place placing.places (among n.place n.there))))
-      (rise-fits 1 start.next (map placing.name placing.places) mid.rise)
-    where
-      rise-fits : (least next : ℕ) (xs : List ℕ) → RiseBetween least xs next → least ≤ next
-      rise-fits least next [] r = r
-      rise-fits least next (x ∷ xs) r = let more = rise-fits (x + 1) next xs r.1 in omega (arith, more, r.0)
+      (rise-end 1 start.next (map placing.name placing.places) mid.rise)
 
   map-twice : (ps : List ℕ) → ((p : ℕ) → IsTrue (is_in p ps) → IsTrue (is_in p placing.met)) → map placing.name (map (place_now (word_at now.memory.blocks)) ps) ≡ map placing.name ps
   map-twice [] among = refl

@@ -1,18 +1,16 @@
 -- What the code queues for marking, of spans that cover all that was remembered, is what the end of a collection asks for.
-use Rattle.std.proofs.Common.{◌≡◌, ◌≢◌, ℕ, zero, suc, ◌+◌, ◌<◌, ◌≤◌, ◌⊎◌, Bool, true, false, IsTrue, List, [], ◌∷◌, map, filter, Option, Some, slice_get, refl, sym, ap, ◌∙◌, subst, inl, inr, arith}
-use Rattle.std.specs.Prelude.{◌||◌, ◌==◌}
+use Rattle.std.proofs.Common.{◌≡◌, ◌≢◌, ℕ, zero, suc, ◌+◌, ◌<◌, ◌⊎◌, Bool, true, false, IsTrue, List, [], ◌∷◌, map, filter, Option, Some, slice_get, refl, sym, ap, ◌∙◌, subst, inl, inr, arith}
 use Rattle.std.proofs.lemmas.Bool.{ne_eqb}
 use Rattle.heap_space.specs.Places.{word_at}
 use Rattle.object_header.specs.Words.{has_flag}
 use Rattle.object_header.specs.declared.flags.Flag.TheVariants.{Visited}
 use Rattle.object_view.proofs.FoundLaws.{found-at, ref-from}
 use Rattle.object_view.proofs.LayoutLaws.{laid_out}
-use Rattle.object_model.specs.Object.{object_at}
 use Rattle.object_model.specs.Fields.{refs_of}
 use Rattle.object_model.specs.Object.{Object}
 use Rattle.object_model.specs.ObjectWords.{renamed, layout_at, object_from, words_at}
 use Rattle.object_model.specs.Sets.{is_in}
-use Rattle.object_model.proofs.Members.{is_in-head, is_in-tail, is_in-cases, is_in-nil, is_in-named, map-same, filter-part, filter-member, or_cases}
+use Rattle.object_model.proofs.Members.{is_in-head, is_in-tail, is_in-cases, is_in-nil, map-same, filter-part, filter-member, or_cases}
 use Rattle.text_model.specs.declared.line.Phase.{Phase}
 use Rattle.text_model.specs.declared.line.Phase.TheVariants.{Marking}
 use Rattle.remember_cards.specs.declared.Span.{Span}
@@ -25,9 +23,9 @@ use Rattle.heap_parts.specs.Headers.{is_marked}
 use Rattle.heap_parts.specs.StandsFor.{PartsStandButYoung}
 use Rattle.frame_laws.proofs.PlaceLaws.{old-is_in, is_in-old, named-by}
 use Rattle.minor_collect.specs.Carried.{Moved}
-use Rattle.minor_collect.specs.Gray.{IsQueuedFrom, QueuesWritten}
+use Rattle.minor_collect.specs.Gray.{QueuesWritten}
 use Rattle.minor_collect.specs.Midway.{Midway, Changing, with_changing, Owes, OwesNone, Placing}
-use Rattle.minor_collect.specs.Queues.{Queues, visited_places, IsReferent}
+use Rattle.minor_collect.specs.Queues.{Queues, visited_places}
 use Rattle.minor_collect.specs.Spans.{IsSpanned, is_visited_span}
 use Rattle.minor_collect.proofs.Ended.{item_leads, some-item}
 use Rattle.minor_collect.proofs.StartLaws.{held_place}
