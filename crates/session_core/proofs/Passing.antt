@@ -12,7 +12,6 @@ use Rattle.store_model.specs.Checks.{Checks, first_reason}
 use Rattle.store_model.specs.Look.{look}
 use Rattle.store_model.specs.Progress.{Progress}
 use Rattle.store_model.specs.Refusal.{checks_in_range, refusal, refusal_seen}
-use Rattle.store_model.specs.Unbuilt.{is_unbuilt, program_refusal}
 
 -- a check that does not refuse does not hold
 pub passed : (b : Bool) (reason : Reason) (rest : Option Reason) → cond b (Some reason) rest ≡ None → (b ≡ false) × (rest ≡ None)
