@@ -123,7 +123,6 @@ fn reason_name(reason: Reason) -> &'static [u8]
     ensures { result.now ≡ reason_text reason }
 {
     match reason {
-        Reason::NotBuilt => b"NotBuilt",
         Reason::TooManyLines => b"TooManyLines",
         Reason::LineTooLong => b"LineTooLong",
         Reason::Syntax => b"Syntax",

@@ -6,7 +6,7 @@ use Rattle.text_model.specs.declared.command.Command.TheVariants.{NewArray, Copy
 use Rattle.text_model.specs.declared.item.Item.{Item}
 use Rattle.text_model.specs.declared.item.Item.TheVariants.{Blank, Setting, TypeDef, Command as CommandItem}
 use Rattle.text_model.specs.declared.item.Reason.{Reason}
-use Rattle.text_model.specs.declared.item.Reason.TheVariants.{Range, NotBuilt}
+use Rattle.text_model.specs.declared.item.Reason.TheVariants.{Range}
 use Rattle.text_model.specs.Range.{is_above, is_above_ids, is_above_items}
 use Rattle.store_model.specs.Checks.{Checks, first_reason}
 use Rattle.store_model.specs.Look.{look}
@@ -18,33 +18,9 @@ pub passed : (b : Bool) (reason : Reason) (rest : Option Reason) → cond b (Som
 passed true reason rest e = cc
 passed false reason rest e = (refl, e)
 
--- nor do those in front
-passed_front : (checks more : Checks) → first_reason (checks ++ more) ≡ None → first_reason checks ≡ None
-passed_front [] more e = refl
-passed_front ((true, reason) ∷ checks) more e = absurd (let no : ⊥ = cc in no)
-passed_front ((false, reason) ∷ checks) more e = passed_front checks more e
-
--- what the program does not refuse, the language does not
-pub language_accepts : (at : Progress) (item : Item) → program_refusal at item ≡ None → refusal at item ≡ None
-unfolding program_refusal refusal_seen
-language_accepts at Blank e = e
-language_accepts at (Setting name value) e = e
-language_accepts at (TypeDef id info) e = e
-language_accepts at (CommandItem command) e =
-    let ranged = passed (is_above command) Range _ e in
-    let built = passed (is_unbuilt command) NotBuilt _ ranged.1 in
-    let further : first_reason (checks_in_range at.setup (look at.store) command) ≡ None = passed_front (checks_in_range at.setup (look at.store) command) _ built.1 in
-    rw ranged.0 further
-
 or_false : (a b : Bool) → (a || b) ≡ false → (a ≡ false) × (b ≡ false)
 or_false true b e = absurd (let no : ⊥ = cc in no)
 or_false false b e = (refl, e)
-
--- the length of an array whose numbers are in range
-pub len_in_range : (root type_id len : ℕ) → is_above (NewArray root type_id len) ≡ false → len ≤ 16777216
-unfolding is_above
-len_in_range root type_id len e =
-    ltb-false 16777216 len (or_false (is_above_ids type_id) (is_above_items len) (or_false (is_above_ids root) _ e).1).1
 
 -- the ranges of a copy whose numbers are in range
 pub copy_in_range : (root item from from_item count : ℕ) → is_above (CopyRefs root item from from_item count) ≡ false

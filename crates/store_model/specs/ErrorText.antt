@@ -5,7 +5,6 @@ use Rattle.text_model.specs.declared.item.Reason.TheVariants as reason
 
 -- the text of a reason is its name
 abbrev pub reason_text : Reason → List ℕ
-reason_text reason.NotBuilt = codes "NotBuilt"
 reason_text reason.TooManyLines = codes "TooManyLines"
 reason_text reason.LineTooLong = codes "LineTooLong"
 reason_text reason.Syntax = codes "Syntax"
