@@ -1,18 +1,18 @@
-//! A whole script, from its first line on.
+//! A whole script, from its first unit on.
 ghost use Rattle.std.specs.Prelude.{◌≡◌, ◌≤◌, IsTrue, IsErrOf};
 ghost use Rattle.heap_io.specs.Causes.{Rose};
 ghost use Rattle.heap_core.specs.Heap.{closed_heap};
-ghost use Rattle.replay_top.specs.Run.{EndsRun, stop_of_reader};
+ghost use Rattle.replay_top.specs.Run.{EndsRun};
 
-use crate::line::{Stop, do_line};
+use crate::line::{Stop, do_item};
 use heap_core::Heap;
-use heap_io::{Files, Sink};
-use script_text::{LineReader, ReadEnd};
+use heap_io::{Failed, Files, Sink};
+use script_convert::{ScriptReader, UnitEnd};
+use script_text::Bytes;
 use session_core::Session;
 use std::alloc::Global;
-use store_model::Reason;
 
-/// Replays the script of a file over a heap, and writes its transcript.
+/// Replays the script of a file, in either form, over a heap, and writes its transcript.
 pub(crate) fn replay<F: Files, K: Sink>(
     alloc: Global,
     name: &[u8],
@@ -31,49 +31,42 @@ pub(crate) fn replay<F: Files, K: Sink>(
     let Ok(()) = files.begin_file(name) else {
         return Err(Stop::ReadFault);
     };
-    let mut reader = LineReader::new(alloc)?;
+    let bytes = Bytes::new(alloc)?;
     let mut session = Session::new(alloc)?;
+    match ScriptReader::over(bytes, files) {
+        Ok(mut reader) => do_units(alloc, &mut reader, files, out, &mut session, heap),
+        Err(Failed) => Err(Stop::ReadFault),
+    }
+}
+
+/// Does the units of a script one after another, and writes their text.
+fn do_units<F: Files, K: Sink>(
+    alloc: Global,
+    reader: &mut ScriptReader,
+    files: &mut F,
+    out: &mut K,
+    session: &mut Session,
+    heap: &mut Heap,
+) -> Result<(), Stop>
+{
     let mut lines = Vec::new(alloc);
     let mut text = Vec::new(alloc);
     let mut line = [0; 200];
     let mut number = 0;
-    'script: loop {
-        match reader.next(files, &mut line) {
-            Ok(None) => return Ok(()),
-            Ok(Some(length)) => {
+    'units: loop {
+        match reader.next(number, files, &mut line) {
+            Ok(Some(item)) => {
                 number += 1;
-                let bytes = &line[..length];
-                match do_line(
-                    bytes,
-                    number,
-                    &mut session,
-                    heap,
-                    &mut lines,
-                    &mut text,
-                    out,
-                ) {
+                match do_item(&item, number, session, heap, &mut lines, &mut text, out) {
                     Ok(()) => {}
                     Err(stop) => return Err(stop),
                 }
             }
-            Err(end) => return Err(stop_of_reader(number + 1, end)),
+            Ok(None) => return Ok(()),
+            Err(UnitEnd::Refused { unit, reason }) => {
+                return Err(Stop::Malformed { line: unit, reason });
+            }
+            Err(UnitEnd::ReadFault) => return Err(Stop::ReadFault),
         }
-    }
-}
-
-/// How a run stops where a line is not read.
-fn stop_of_reader(line: u64, end: ReadEnd) -> Stop
-    ensures { result ≡ stop_of_reader line end }
-{
-    match end {
-        ReadEnd::TooMany => Stop::Malformed {
-            line,
-            reason: Reason::TooManyLines,
-        },
-        ReadEnd::TooLong => Stop::Malformed {
-            line,
-            reason: Reason::LineTooLong,
-        },
-        ReadEnd::ReadFault => Stop::ReadFault,
     }
 }

@@ -7,11 +7,12 @@ ghost use Rattle.store_model.specs.ErrorText.{usage_text};
 ghost use Rattle.heap_core.specs.Heap.{closed_heap};
 ghost use Rattle.replay_top.specs.Top.{asked, stop_status, Tells, Replays, IsComplete};
 
-use crate::line::Stop;
+use crate::line::{Stop, stop_of_convert};
 use crate::script::replay;
 use crate::tell::{tell, tell_stop};
 use heap_core::Heap;
 use heap_io::{Files, Sink};
+use script_convert::convert;
 use std::alloc::Global;
 
 /// How a run of the program ends. Its number is the status of the process.
@@ -21,7 +22,7 @@ pub enum Status {
     Done = 0,
     /// The words are none of the forms.
     Usage = 1,
-    /// A line is refused.
+    /// A line or record is refused.
     Malformed = 2,
     /// A request does not fit under the limit.
     HeapLimit = 3,
@@ -30,8 +31,9 @@ pub enum Status {
     WriteFault = 6,
 }
 
-/// Runs the program for its words, which are `replay FILE`: does the lines of the file one after another over a closed
-/// heap, writes the transcript to `out`, and on a stop before the script's end why it stopped to `err`.
+/// Runs the program for its words. With `replay FILE` it does the units of the file, a script in either form, one after
+/// another over a closed heap, and writes the transcript to `out`; with `convert FILE` it writes the script in its other form
+/// to `out`. On a stop before the script's end it writes why it stopped to `err`.
 pub fn run<F: Files, K: Sink, E: Sink>(
     alloc: Global,
     words: &[String],
@@ -61,11 +63,34 @@ pub fn run<F: Files, K: Sink, E: Sink>(
     ensures complete { IfSome (asked (map string_bytes words.now)) (λ name.
         IsComplete (F.bytes files.old name) (Rose (F.faults files.old) (F.faults files.new)) (Rose (K.faults out.old) (K.faults out.new)) result) }
 {
-    let Some(name) = asked(words) else {
-        tell(err, b"usage: replay FILE, or bench START COUNT\n");
-        return Status::Usage;
-    };
-    match replay(alloc, name, files, out, heap) {
+    if let Some(name) = named("replay", words) {
+        return ended(replay(alloc, name, files, out, heap), err);
+    }
+    if let Some(name) = named("convert", words) {
+        return ended(converted(alloc, name, files, out), err);
+    }
+    tell(err, b"usage: replay FILE, or bench START COUNT, or convert FILE\n");
+    Status::Usage
+}
+
+/// Writes a script in the other form.
+fn converted<F: Files, K: Sink>(
+    alloc: Global,
+    name: &[u8],
+    files: &mut F,
+    out: &mut K,
+) -> Result<(), Stop>
+{
+    match convert(alloc, name, files, out) {
+        Ok(()) => Ok(()),
+        Err(end) => Err(stop_of_convert(end)),
+    }
+}
+
+/// Tells why a run stopped, if it did, and gives its status.
+fn ended<E: Sink>(answer: Result<(), Stop>, err: &mut E) -> Status
+{
+    match answer {
         Ok(()) => Status::Done,
         Err(stop) => {
             tell_stop(err, stop);
@@ -74,14 +99,14 @@ pub fn run<F: Files, K: Sink, E: Sink>(
     }
 }
 
-/// The name of the file, where the words are `replay FILE`.
-fn asked(words: &[String]) -> Option<&[u8]>
-    ensures { option_copied result ≡ asked (map string_bytes words.now) }
+/// The name of the file, where the words are a command and that.
+fn named<'a>(command: &str, words: &'a [String]) -> Option<&'a [u8]>
+    ensures { option_copied result ≡ named (string_bytes command) (map string_bytes words.now) }
 {
     if words.len() != 2 {
         return None;
     }
-    if words[0].as_str() != "replay" {
+    if words[0].as_str() != command {
         return None;
     }
     Some(words[1].as_bytes())

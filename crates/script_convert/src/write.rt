@@ -13,7 +13,7 @@ use script_text::print_item;
 use text_model::Item;
 
 /// Writes all of a piece, by calls on what is left of it.
-pub(crate) fn write_all<K: Sink>(out: &mut K, piece: &[u8]) -> Result<(), Failed>
+pub fn write_all<K: Sink>(out: &mut K, piece: &[u8]) -> Result<(), Failed>
     ensures writes { Writes (K.written out.old) (K.written out.new) piece.now result }
     ensures cause { HasCause (K.faults out.old) (K.faults out.new) result }
 {
@@ -62,19 +62,22 @@ pub(crate) fn write_record<K: Sink>(
     }
 }
 
-/// Writes the record of what a line says; of a blank line there is none. What `record` held may be gone.
-pub(crate) fn write_said<K: Sink>(
+/// Writes an item in a form, as its line or as its record; of a blank line there is none. What `piece` held may be gone.
+pub(crate) fn write_unit<K: Sink>(
+    lines: bool,
     item: &Item,
-    record: &mut Vec<u8>,
+    piece: &mut Vec<u8>,
     out: &mut K,
 ) -> Result<(), ConvertEnd>
-    requires { IsSaid item.now }
-    ensures writes { WritesItem (K.written out.old) (K.written out.new) (said_record item.now) result }
-    ensures later { K.faults out.old ≤ K.faults out.new }
-    ensures fault { IsErrOf result ConvertEnd.WriteFault → Rose (K.faults out.old) (K.faults out.new) }
 {
     match item {
         Item::Blank => Ok(()),
-        _ => write_record(item, record, out),
+        _ => {
+            if lines {
+                write_line(item, piece, out)
+            } else {
+                write_record(item, piece, out)
+            }
+        }
     }
 }
