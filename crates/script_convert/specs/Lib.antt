@@ -1,4 +1,4 @@
 pub mod Convert
-pub mod Ends
-pub mod EndsLines
+pub mod Reader
+pub mod Units
 pub mod Written

@@ -1,6 +1,9 @@
 //! A script in the other form.
-ghost use Rattle.std.specs.Prelude.{◌≡◌, ◌≤◌, IsTrue, IsErrOf};
+ghost use Rattle.std.specs.Prelude.{◌≡◌, ◌≤◌, ℕ, List, [], Option, Bool, IsTrue, IsErrOf};
 ghost use Rattle.heap_io.specs.Causes.{Rose};
+ghost use Rattle.text_model.specs.Units.{Said};
+ghost use Rattle.script_convert.specs.Reader.{HandedOut, MayRead, is_form};
+ghost use Rattle.script_convert.specs.Convert.{Converts, ConvertsScript, ConvertsUnits};
 
 use crate::end::ConvertEnd;
 use crate::reader::{ScriptReader, UnitEnd};
@@ -24,6 +27,12 @@ pub fn convert<F: Files, K: Sink>(
     files: &mut F,
     out: &mut K,
 ) -> Result<(), ConvertEnd>
+    requires { IsTrue (F.may_begin files.old name.now) }
+    ensures converts { Converts (F.bytes files.old name.now) (F.begun files.old) (F.begun files.new) (F.rest files.new) (K.written out.old) (K.written out.new) result }
+    ensures read { IsErrOf result ConvertEnd.ReadFault → Rose (F.faults files.old) (F.faults files.new) }
+    ensures write { IsErrOf result ConvertEnd.WriteFault → Rose (K.faults out.old) (K.faults out.new) }
+    ensures read_later { F.faults files.old ≤ F.faults files.new }
+    ensures write_later { K.faults out.old ≤ K.faults out.new }
 {
     let Ok(()) = files.begin_file(name) else {
         return Err(ConvertEnd::ReadFault);
@@ -43,6 +52,13 @@ fn convert_script<F: Files, K: Sink>(
     piece: &mut Vec<u8>,
     out: &mut K,
 ) -> Result<(), ConvertEnd>
+    requires { MayRead reader.old (F.rest files.old) 0 }
+    ensures ends { (script : Option (List ℕ)) → HandedOut script (F.rest files.old) reader.old []
+        → ConvertsScript script (F.rest files.new) (K.written out.old) (K.written out.new) result }
+    ensures read { IsErrOf result ConvertEnd.ReadFault → Rose (F.faults files.old) (F.faults files.new) }
+    ensures write { IsErrOf result ConvertEnd.WriteFault → Rose (K.faults out.old) (K.faults out.new) }
+    ensures read_later { F.faults files.old ≤ F.faults files.new }
+    ensures write_later { K.faults out.old ≤ K.faults out.new }
 {
     if reader.is_binary() {
         return convert_units(true, reader, files, piece, out);
@@ -69,6 +85,13 @@ fn convert_units<F: Files, K: Sink>(
     piece: &mut Vec<u8>,
     out: &mut K,
 ) -> Result<(), ConvertEnd>
+    requires { MayRead reader.old (F.rest files.old) 0 }
+    ensures ends { (script : Option (List ℕ)) → HandedOut script (F.rest files.old) reader.old []
+        → ConvertsUnits lines script (F.rest files.new) (K.written out.old) (K.written out.new) result }
+    ensures read { IsErrOf result ConvertEnd.ReadFault → Rose (F.faults files.old) (F.faults files.new) }
+    ensures write { IsErrOf result ConvertEnd.WriteFault → Rose (K.faults out.old) (K.faults out.new) }
+    ensures read_later { F.faults files.old ≤ F.faults files.new }
+    ensures write_later { K.faults out.old ≤ K.faults out.new }
 {
     let mut line = [0; 200];
     let mut number = 0;

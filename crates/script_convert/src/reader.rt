@@ -1,9 +1,10 @@
 //! A reader of a script in either form, unit by unit.
-ghost use Rattle.std.specs.Prelude.{◌≡◌, ◌≤◌, List, Option, ℕ, [], IfOk, OnErr, IsErrOf};
+ghost use Rattle.std.specs.Prelude.{◌≡◌, ◌≤◌, List, Option, ℕ, [], false, IfOk, OnErr};
 ghost use Rattle.heap_io.specs.Causes.{HasCause};
 ghost use Rattle.script_text.specs.Mark.{BreaksMark};
 ghost use Rattle.text_model.specs.Units.{Said};
-ghost use Rattle.script_convert.specs.Reader.{HandedOut, MayRead, GoesOn, ReadsUnit, HasUnitCause, end_of_line, end_of_record, bad_reason};
+ghost use Rattle.text_model.specs.Script.{bad_reason};
+ghost use Rattle.script_convert.specs.Reader.{HandedOut, HandedLines, HandedRecords, MayRead, MayReadLine, MayReadRecord, GoesOn, ReadsUnit, HasUnitCause, is_form, end_of_line, end_of_record};
 
 use heap_io::{Failed, Files};
 use script_binary::{BinEnd, BinReader};
@@ -28,10 +29,12 @@ pub enum ScriptReader {
 
 impl ScriptReader {
     /// A reader at the script's beginning, which tells the form. It allocates nothing, and no byte of a text is taken.
-    pub fn over<F: Files>(bytes: Bytes, files: &mut F) -> Result<ScriptReader, Failed>
+    pub fn over<F: Files>(mut bytes: Bytes, files: &mut F) -> Result<ScriptReader, Failed>
         requires { bytes ≡ [] }
+        ensures begins { IfOk result (λ reader. HandedOut (F.rest files.old) (F.rest files.new) reader [] × MayRead reader (F.rest files.new) 0) }
+        ensures breaks { OnErr result (BreaksMark (F.rest files.old) (F.rest files.new)) }
+        ensures cause { HasCause (F.faults files.old) (F.faults files.new) result }
     {
-        let mut bytes = bytes;
         match bytes.is_binary(files) {
             Ok(true) => Ok(ScriptReader::Binary(BinReader::over(bytes))),
             Ok(false) => Ok(ScriptReader::Text(LineReader::over(bytes))),
@@ -40,7 +43,9 @@ impl ScriptReader {
     }
 
     /// Whether the script is binary.
-    pub fn is_binary(&self) -> bool {
+    pub fn is_binary(&self) -> bool
+        ensures { result ≡ is_form self.now }
+    {
         match self {
             ScriptReader::Text(_) => false,
             ScriptReader::Binary(_) => true,
@@ -57,6 +62,12 @@ impl ScriptReader {
         files: &mut F,
         line: &mut [u8; 200],
     ) -> Result<Option<Item>, UnitEnd>
+        requires may { MayRead self.old (F.rest files.old) number }
+        requires few { number ≤ 16000000 }
+        ensures reads { (script : Option (List ℕ)) (units : List Said) → HandedOut script (F.rest files.old) self.old units
+            → ReadsUnit script (F.rest files.new) (HandedOut script (F.rest files.new) self.new) units result }
+        ensures goes_on { GoesOn (MayRead self.new (F.rest files.new)) (F.rest files.new) number result }
+        ensures cause { HasUnitCause (F.faults files.old) (F.faults files.new) result }
     {
         match self {
             ScriptReader::Text(reader) => next_line(reader, number, files, line),
@@ -72,6 +83,12 @@ fn next_line<F: Files>(
     files: &mut F,
     line: &mut [u8; 200],
 ) -> Result<Option<Item>, UnitEnd>
+    requires may { MayReadLine reader.old (F.rest files.old) number }
+    requires few { number ≤ 16000000 }
+    ensures reads { (script : Option (List ℕ)) (units : List Said) → HandedLines script (F.rest files.old) reader.old units
+        → ReadsUnit script (F.rest files.new) (HandedLines script (F.rest files.new) reader.new) units result }
+    ensures goes_on { GoesOn (MayReadLine reader.new (F.rest files.new)) (F.rest files.new) number result }
+    ensures cause { HasUnitCause (F.faults files.old) (F.faults files.new) result }
 {
     match reader.next(files, line) {
         Ok(Some(length)) => match parse_line(&line[..length]) {
@@ -88,6 +105,11 @@ fn next_line<F: Files>(
 
 /// The item of the next record.
 fn next_record<F: Files>(reader: &mut BinReader, files: &mut F) -> Result<Option<Item>, UnitEnd>
+    requires { reader.old.ended ≡ false }
+    ensures reads { (script : Option (List ℕ)) (units : List Said) → HandedRecords script (F.rest files.old) reader.old units
+        → ReadsUnit script (F.rest files.new) (HandedRecords script (F.rest files.new) reader.new) units result }
+    ensures goes_on { GoesOn (MayReadRecord reader.new) (F.rest files.new) reader.old.count result }
+    ensures cause { HasUnitCause (F.faults files.old) (F.faults files.new) result }
 {
     match reader.next(files) {
         Ok(item) => Ok(item),

@@ -1,10 +1,12 @@
 //! One piece after another is written until all of it is taken.
-ghost use Rattle.std.specs.Prelude.{◌≡◌, ◌≤◌, IsErrOf};
+ghost use Rattle.std.specs.Prelude.{◌≡◌, ◌≤◌, ◌++◌, ◌∷◌, [], IsErrOf};
 ghost use Rattle.heap_io.specs.Causes.{HasCause, Rose};
 ghost use Rattle.text_model.specs.Binary.{item_record};
 ghost use Rattle.text_model.specs.ItemLine.{HasLine};
-ghost use Rattle.script_convert.specs.Written.{Writes, WritesItem, item_line};
-ghost use Rattle.script_convert.specs.EndsLines.{IsSaid, said_record};
+ghost use Rattle.text_model.specs.ItemText.{item_text};
+ghost use Rattle.script_convert.specs.Written.{Writes, WritesItem};
+ghost use Rattle.script_convert.specs.Reader.{IsSaid};
+ghost use Rattle.script_convert.specs.Convert.{item_piece};
 
 use crate::end::ConvertEnd;
 use heap_io::{Failed, Sink};
@@ -31,7 +33,7 @@ pub(crate) fn write_line<K: Sink>(
     out: &mut K,
 ) -> Result<(), ConvertEnd>
     requires { HasLine item.now }
-    ensures writes { WritesItem (K.written out.old) (K.written out.new) (item_line item.now) result }
+    ensures writes { WritesItem (K.written out.old) (K.written out.new) (item_text item.now ++ 10 ∷ []) result }
     ensures later { K.faults out.old ≤ K.faults out.new }
     ensures fault { IsErrOf result ConvertEnd.WriteFault → Rose (K.faults out.old) (K.faults out.new) }
 {
@@ -69,6 +71,10 @@ pub(crate) fn write_unit<K: Sink>(
     piece: &mut Vec<u8>,
     out: &mut K,
 ) -> Result<(), ConvertEnd>
+    requires { IsSaid item.now }
+    ensures writes { WritesItem (K.written out.old) (K.written out.new) (item_piece lines item.now) result }
+    ensures later { K.faults out.old ≤ K.faults out.new }
+    ensures fault { IsErrOf result ConvertEnd.WriteFault → Rose (K.faults out.old) (K.faults out.new) }
 {
     match item {
         Item::Blank => Ok(()),
