@@ -1,7 +1,7 @@
 -- Lines that were handed out, and what they say.
 use Rattle.std.proofs.Common.{◌≡◌, ℕ, suc, ◌+◌, ◌<◌, ◌≤◌, Bool, true, false, cond, List, [], ◌∷◌, ◌++◌, length, map, take, drop, Option, Some, None, Result, Ok, Err, refl, sym, ap, ◌∙◌, subst, arith, inl, append_assoc, append-nil, length-append, length-take}
 use Rattle.std.specs.Prelude.{⊤, ◌==◌, IfSome}
-use Rattle.std.specs.Io.KnownBytes.{Consumes, IsAtEnd, prepend_known}
+use Rattle.std.specs.Io.KnownBytes.{Consumes, IsAtEnd, Keeps, prepend_known}
 use Rattle.std.proofs.KnownBytes.{Consumes-trans}
 use Rattle.std.proofs.lemmas.Bool.{and_parts, not-true, false≢true, both_ways, le-ltb, lt-ltb}
 use Rattle.std.proofs.lemmas.Bool.Decides.{Decides-eqb}
@@ -115,24 +115,26 @@ line_on script rest rest_after reader new units line item handed step hands says
   whole = whole-push handed.lines line hands.one_line handed.whole;
 }
 
-leads_from : (script : Option (List ℕ)) → LeadsOn script script []
-leads_from None = tt
-leads_from (Some script) = refl
+leads_from : (script here : Option (List ℕ)) → Keeps script here → LeadsOn script here []
+leads_from None here same = tt
+leads_from (Some script) None same = absurd same
+leads_from (Some script) (Some xs) same = ap lines_of (sym same)
 
-consumes_none : (script : Option (List ℕ)) → Consumes script script []
-consumes_none None = tt
-consumes_none (Some script) = refl
+consumes_none : (script here : Option (List ℕ)) → Keeps script here → Consumes script here []
+consumes_none None here same = tt
+consumes_none (Some script) None same = absurd same
+consumes_none (Some script) (Some xs) same = sym same
 
 -- the beginning of a text
-pub lines_from : (script rest : Option (List ℕ)) (reader : ReaderState) → ahead reader rest ≡ script → reader.count ≡ 0
+pub lines_from : (script rest : Option (List ℕ)) (reader : ReaderState) → Keeps script (ahead reader rest) → reader.count ≡ 0
     → IfSome script (λ bytes. begins_binary bytes ≡ false) → HandedLines script rest reader []
 lines_from script rest reader same none text = record {
   lines = [];
   says = refl;
   count = none;
   text = text;
-  leads = rw same (leads_from script);
-  bytes = λ e. rw same (consumes_none script);
+  leads = leads_from script (ahead reader rest) same;
+  bytes = λ e. consumes_none script (ahead reader rest) same;
   whole = λ more. refl;
 }
 
@@ -250,3 +252,25 @@ rest_at_end (b ∷ held) (Some xs) end = cc
 
 pub short_front : (n : ℕ) (l : List ℕ) → n ≤ 200 → length (take n l) ≤ 200
 short_front n l short = omega (arith, short, length-take n l)
+
+readings-append : (k : ℕ) (lines more : List (List ℕ)) → readings k (lines ++ more) ≡ readings k lines ++ readings (k + length lines) more
+readings-append k [] more = ap (λ n. readings n more) (let e : k ≡ k + 0 = omega arith in e)
+readings-append k (first ∷ lines) more =
+    ap (λ rest. reading k first ∷ rest) (readings-append (k + 1) lines more
+    ∙ ap (λ n. readings (k + 1) lines ++ readings n more) (let e : (k + 1) + length lines ≡ k + length (first ∷ lines) = omega arith in e))
+
+leads_some : (script : List ℕ) (here : Option (List ℕ)) (lines : List (List ℕ)) → LeadsOn (Some script) here lines → (behind : List (List ℕ)) × (lines_of script ≡ lines ++ behind)
+leads_some script None lines leads = absurd leads
+leads_some script (Some xs) lines leads = (lines_of xs, leads)
+
+-- the units that were handed out stand at the front of those of the text
+pub lines_lead : (script : List ℕ) (rest : Option (List ℕ)) (reader : ReaderState) (units : List Said) → HandedLines (Some script) rest reader units
+    → (behind : List Said) × (units_of script ≡ units ++ behind)
+lines_lead script rest reader units handed =
+    let next = leads_some script (ahead reader rest) handed.lines handed.leads in
+    (
+      map says_item (readings (1 + length handed.lines) next.0),
+      text_units script handed.text ∙ ap (λ (l : List (List ℕ)). map says_item (readings 1 l)) next.1 ∙ ap (map says_item) (readings-append 1 handed.lines next.0)
+      ∙ map-append says_item (readings 1 handed.lines) (readings (1 + length handed.lines) next.0)
+      ∙ ap (λ l. l ++ map says_item (readings (1 + length handed.lines) next.0)) (sym handed.says),
+    )

@@ -299,3 +299,16 @@ next_goes_on rest rest_after reader new (Some item) unended reads = (
   omega (arith, reads.count, reads.number),
 )
 next_goes_on rest rest_after reader new None unended reads = rest_at_end new.held rest_after reads.1
+
+leads_by : (script : List ℕ) (here : Option (List ℕ)) (units : List Said) (items : List Item) → units ≡ map as_said items
+    → Consumes (Some script) here (binary_mark ++ items_records items) → HaveLines items → length items ≤ 16000000
+    → (behind : List Said) × (units_of script ≡ units ++ behind)
+leads_by script None units items says taken lines few = absurd taken
+leads_by script (Some xs) units items says taken lines few =
+    let behind = units_behind script xs items taken lines few in
+    (records_said (suc behind.0) (length items + 1) xs, behind.1 ∙ ap (λ l. l ++ records_said (suc behind.0) (length items + 1) xs) (sym says))
+
+-- the units that were handed out stand at the front of those of the binary script
+pub records_lead : (script : List ℕ) (rest : Option (List ℕ)) (reader : BinState) (units : List Said) → HandedRecords (Some script) rest reader units
+    → (behind : List Said) × (units_of script ≡ units ++ behind)
+records_lead script rest reader units handed = leads_by script (ahead reader rest) units handed.items handed.says handed.taken handed.lines handed.few

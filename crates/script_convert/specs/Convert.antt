@@ -9,8 +9,15 @@ use Rattle.text_model.specs.Binary.{begins_binary, binary_mark, item_record, end
 use Rattle.text_model.specs.Units.{Said, units_of}
 use Rattle.script_convert.specs.declared.end.ConvertEnd.{ConvertEnd}
 use Rattle.script_convert.specs.declared.end.ConvertEnd.TheVariants.{Malformed, ReadFault, WriteFault, OutOfMemory}
+use Rattle.script_convert.specs.declared.reader.UnitEnd.{UnitEnd}
+use Rattle.script_convert.specs.declared.reader.UnitEnd.TheVariants.{Refused, ReadFault as UnitFault}
 use Rattle.script_convert.specs.Written.{WritesPart}
 use Rattle.script_convert.specs.Units.{AreSaid, whole_units_of}
+
+-- how a conversion stops where a unit is not read
+abbrev pub end_of_unit : UnitEnd → ConvertEnd
+end_of_unit (Refused k why) = Malformed k why
+end_of_unit UnitFault = ReadFault
 
 -- the piece of an item in the other form, which is a line with its LF for an item of a binary script: a blank line has none
 abbrev pub item_piece : Bool → Item → List ℕ

@@ -1,4 +1,5 @@
 //! Why a conversion stops before the script's end.
+ghost use Rattle.std.specs.Prelude.{◌≡◌};
 
 use std::alloc::AllocError;
 use text_model::Reason;

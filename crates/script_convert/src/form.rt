@@ -3,7 +3,7 @@ ghost use Rattle.std.specs.Prelude.{◌≡◌, ◌≤◌, ℕ, List, [], Option,
 ghost use Rattle.heap_io.specs.Causes.{Rose};
 ghost use Rattle.text_model.specs.Units.{Said};
 ghost use Rattle.script_convert.specs.Reader.{HandedOut, MayRead, is_form};
-ghost use Rattle.script_convert.specs.Convert.{Converts, ConvertsScript, ConvertsUnits};
+ghost use Rattle.script_convert.specs.Convert.{Converts, ConvertsScript, ConvertsUnits, end_of_unit};
 
 use crate::end::ConvertEnd;
 use crate::reader::{ScriptReader, UnitEnd};
@@ -105,10 +105,17 @@ fn convert_units<F: Files, K: Sink>(
                 }
             }
             Ok(None) => return Ok(()),
-            Err(UnitEnd::Refused { unit, reason }) => {
-                return Err(ConvertEnd::Malformed { unit, reason });
-            }
-            Err(UnitEnd::ReadFault) => return Err(ConvertEnd::ReadFault),
+            Err(end) => return Err(end_of_unit(end)),
         }
+    }
+}
+
+/// How a conversion stops where a unit is not read.
+fn end_of_unit(end: UnitEnd) -> ConvertEnd
+    ensures { result ≡ end_of_unit end }
+{
+    match end {
+        UnitEnd::Refused { unit, reason } => ConvertEnd::Malformed { unit, reason },
+        UnitEnd::ReadFault => ConvertEnd::ReadFault,
     }
 }
