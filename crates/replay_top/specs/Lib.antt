@@ -1,4 +1,5 @@
-pub mod Lines
+pub mod EndOfRun
 pub mod Run
 pub mod Top
+pub mod Units
 pub mod Written

@@ -5,6 +5,7 @@ ghost use Rattle.store_model.specs.Progress.{Progress};
 ghost use Rattle.text_model.specs.Text.{IsProper};
 ghost use Rattle.session_core.specs.Standing.{IsPlaced, StandsAt};
 ghost use Rattle.replay_top.specs.Written.{WritesLines};
+ghost use Rattle.replay_top.specs.Run.{stop_of_convert};
 ghost use Rattle.replay_top.specs.Units.{EndsUnit};
 
 use heap_core::Heap;

@@ -1,8 +1,11 @@
 //! A whole script, from its first unit on.
-ghost use Rattle.std.specs.Prelude.{◌≡◌, ◌≤◌, IsTrue, IsErrOf};
+ghost use Rattle.std.specs.Prelude.{◌≡◌, ◌≤◌, ℕ, List, [], Option, IsTrue, IsErrOf};
 ghost use Rattle.heap_io.specs.Causes.{Rose};
 ghost use Rattle.heap_core.specs.Heap.{closed_heap};
-ghost use Rattle.replay_top.specs.Run.{EndsRun};
+ghost use Rattle.store_model.specs.Progress.{at_start};
+ghost use Rattle.script_convert.specs.Reader.{HandedOut, MayRead};
+ghost use Rattle.session_core.specs.Standing.{StandsAt};
+ghost use Rattle.replay_top.specs.Run.{EndsRun, stop_of_unit};
 
 use crate::line::{Stop, do_item};
 use heap_core::Heap;
@@ -48,6 +51,14 @@ fn do_units<F: Files, K: Sink>(
     session: &mut Session,
     heap: &mut Heap,
 ) -> Result<(), Stop>
+    requires may { MayRead reader.old (F.rest files.old) 0 }
+    requires placed { StandsAt session.old heap.old at_start }
+    ensures ends { (script : Option (List ℕ)) (begun begun_after : Option ℕ) → HandedOut script (F.rest files.old) reader.old []
+        → EndsRun script begun begun_after (F.rest files.new) (K.written out.old) (K.written out.new) heap.new result }
+    ensures read { IsErrOf result Stop.ReadFault → Rose (F.faults files.old) (F.faults files.new) }
+    ensures write { IsErrOf result Stop.WriteFault → Rose (K.faults out.old) (K.faults out.new) }
+    ensures read_later { F.faults files.old ≤ F.faults files.new }
+    ensures write_later { K.faults out.old ≤ K.faults out.new }
 {
     let mut lines = Vec::new(alloc);
     let mut text = Vec::new(alloc);
@@ -63,10 +74,17 @@ fn do_units<F: Files, K: Sink>(
                 }
             }
             Ok(None) => return Ok(()),
-            Err(UnitEnd::Refused { unit, reason }) => {
-                return Err(Stop::Malformed { line: unit, reason });
-            }
-            Err(UnitEnd::ReadFault) => return Err(Stop::ReadFault),
+            Err(end) => return Err(stop_of_unit(end)),
         }
+    }
+}
+
+/// How a run stops where a unit is not read.
+fn stop_of_unit(end: UnitEnd) -> Stop
+    ensures { result ≡ stop_of_unit end }
+{
+    match end {
+        UnitEnd::Refused { unit, reason } => Stop::Malformed { line: unit, reason },
+        UnitEnd::ReadFault => Stop::ReadFault,
     }
 }

@@ -1,11 +1,10 @@
 //! The top call: words in, a status out.
-ghost use Rattle.std.specs.Prelude.{◌≡◌, None, IfSome, IsTrue, option_copied, map, string_bytes};
+ghost use Rattle.std.specs.Prelude.{◌≡◌, None, IfSome, IsErrOf, IsTrue, option_copied, map, string_bytes};
 ghost use Rattle.std.specs.Option.{ForSome};
 ghost use Rattle.std.specs.Io.KnownBytes.{Keeps};
 ghost use Rattle.heap_io.specs.Causes.{Rose};
-ghost use Rattle.store_model.specs.ErrorText.{usage_text};
 ghost use Rattle.heap_core.specs.Heap.{closed_heap};
-ghost use Rattle.replay_top.specs.Top.{asked, stop_status, Tells, Replays, IsComplete};
+ghost use Rattle.replay_top.specs.Top.{named, replayed, converted, usage_text, stop_status, answer_status, answer_text, Tells, Replays, RunsConvert, ConvertsRun, IsComplete};
 
 use crate::line::{Stop, stop_of_convert};
 use crate::script::replay;
@@ -43,15 +42,22 @@ pub fn run<F: Files, K: Sink, E: Sink>(
     heap: &mut Heap,
 ) -> Status
     requires closed { heap.old ≡ closed_heap }
-    requires may_begin { ForSome (asked (map string_bytes words.now)) (λ name. IsTrue (F.may_begin files.old name)) }
+    requires may_begin { ForSome (replayed (map string_bytes words.now)) (λ name. IsTrue (F.may_begin files.old name)) }
+    requires may_convert { ForSome (converted (map string_bytes words.now)) (λ name. IsTrue (F.may_begin files.old name)) }
 
-    // What stands when a script was replayed, by the status.
-    ensures replays { IfSome (asked (map string_bytes words.now)) (λ name.
+    // What stands when a script was replayed, by the status. It is in either form.
+    ensures replays { IfSome (replayed (map string_bytes words.now)) (λ name.
         Replays (F.bytes files.old name) (F.begun files.old) (F.begun files.new) (F.rest files.new) (K.written out.old) (K.written out.new)
         (E.written err.old) (E.written err.new) (E.faults err.old) (E.faults err.new) heap.new result) }
 
+    // What stands when a script was converted, by the status. The heap stays closed.
+    ensures converts { IfSome (converted (map string_bytes words.now)) (λ name.
+        RunsConvert (F.bytes files.old name) (F.begun files.old) (F.begun files.new) (F.rest files.new) (K.written out.old) (K.written out.new)
+        (E.written err.old) (E.written err.new) (E.faults err.old) (E.faults err.new) result
+        × (heap.new ≡ closed_heap)) }
+
     // Other words change nothing, but that the usage is told.
-    ensures usage { asked (map string_bytes words.now) ≡ None → (result ≡ Status.Usage)
+    ensures usage { replayed (map string_bytes words.now) ≡ None → converted (map string_bytes words.now) ≡ None → (result ≡ Status.Usage)
         × Keeps (K.written out.old) (K.written out.new) × (heap.new ≡ closed_heap)
         × Tells (E.written err.old) (E.written err.new) (E.faults err.old) (E.faults err.new) usage_text }
 
@@ -60,7 +66,7 @@ pub fn run<F: Files, K: Sink, E: Sink>(
     ensures write { result ≡ Status.WriteFault → Rose (K.faults out.old) (K.faults out.new) }
 
     // Where nothing stops the run, it comes to the script's end.
-    ensures complete { IfSome (asked (map string_bytes words.now)) (λ name.
+    ensures complete { IfSome (replayed (map string_bytes words.now)) (λ name.
         IsComplete (F.bytes files.old name) (Rose (F.faults files.old) (F.faults files.new)) (Rose (K.faults out.old) (K.faults out.new)) result) }
 {
     if let Some(name) = named("replay", words) {
@@ -80,6 +86,10 @@ fn converted<F: Files, K: Sink>(
     files: &mut F,
     out: &mut K,
 ) -> Result<(), Stop>
+    requires { IsTrue (F.may_begin files.old name.now) }
+    ensures converts { ConvertsRun (F.bytes files.old name.now) (F.begun files.old) (F.begun files.new) (F.rest files.new) (K.written out.old) (K.written out.new) result }
+    ensures read { IsErrOf result Stop.ReadFault → Rose (F.faults files.old) (F.faults files.new) }
+    ensures write { IsErrOf result Stop.WriteFault → Rose (K.faults out.old) (K.faults out.new) }
 {
     match convert(alloc, name, files, out) {
         Ok(()) => Ok(()),
@@ -89,6 +99,8 @@ fn converted<F: Files, K: Sink>(
 
 /// Tells why a run stopped, if it did, and gives its status.
 fn ended<E: Sink>(answer: Result<(), Stop>, err: &mut E) -> Status
+    ensures status { result ≡ answer_status answer }
+    ensures tells { Tells (E.written err.old) (E.written err.new) (E.faults err.old) (E.faults err.new) (answer_text answer) }
 {
     match answer {
         Ok(()) => Status::Done,

@@ -15,10 +15,10 @@ use Rattle.script_convert.specs.declared.reader.ScriptReader.{ScriptReader}
 use Rattle.script_convert.specs.declared.reader.ScriptReader.TheVariants.{Text, Binary}
 use Rattle.script_convert.specs.Written.{WritesPart, WritesItem}
 use Rattle.script_convert.specs.Units.{AreSaid, PassesEnd, items_in, whole_units_of}
-use Rattle.script_convert.specs.Reader.{HandedOut, RefusesUnit, BreaksOff, ReadsUnit}
+use Rattle.script_convert.specs.Reader.{HandedOut, MayRead, RefusesUnit, BreaksOff, ReadsUnit}
 use Rattle.script_convert.specs.Convert.{item_piece, items_pieces, items_said, WritesUnits, StopsUnits, ReadsUnits, LeavesUnits, ConvertsUnits, end_of_unit}
-use Rattle.script_convert.proofs.LinesRead.{lines_lead}
-use Rattle.script_convert.proofs.RecordsRead.{records_lead}
+use Rattle.script_convert.proofs.LinesRead.{lines_lead, units_counted as lines_counted}
+use Rattle.script_convert.proofs.RecordsRead.{records_lead, units_counted as records_counted}
 
 -- said units
 pub said_none : AreSaid [] []
@@ -196,3 +196,9 @@ units_end binary script rest rest_after reader before written handed_after (Refu
     rw is (units_refused binary script rest rest_after reader before written k why run reads)
 units_end binary script rest rest_after reader before written handed_after UnitFault answer run reads is =
     rw is (units_broken binary script rest rest_after reader before written run reads)
+
+-- so many units were handed out
+pub handed_count : (script rest : Option (List ℕ)) (reader : ScriptReader) (number : ℕ) (units : List Said) → HandedOut script rest reader units
+    → MayRead reader rest number → number ≡ length units
+handed_count script rest (Text reader) number units handed may = sym may.0 ∙ handed.count ∙ sym (lines_counted units handed.lines handed.says)
+handed_count script rest (Binary reader) number units handed may = sym may.0 ∙ handed.count ∙ sym (records_counted units handed.items handed.says)

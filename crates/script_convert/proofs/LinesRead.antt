@@ -98,7 +98,7 @@ readings-length k [] = refl
 readings-length k (line ∷ lines) = ap suc (readings-length (k + 1) lines)
 
 -- as many units as lines
-units_counted : (units : List Said) (lines : List (List ℕ)) → units ≡ map says_item (readings 1 lines) → length units ≡ length lines
+pub units_counted : (units : List Said) (lines : List (List ℕ)) → units ≡ map says_item (readings 1 lines) → length units ≡ length lines
 units_counted units lines are = ap length are ∙ readings-length 1 lines
 
 -- one line more

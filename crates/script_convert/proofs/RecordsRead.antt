@@ -182,7 +182,7 @@ records_end (Some script) rest rest_after reader new units handed reads =
     ended script (ahead reader rest) (ahead new rest_after) units handed.items handed.says handed.taken handed.lines handed.few reads.0 reads.1
 
 -- as many units as items
-units_counted : (units : List Said) (items : List Item) → units ≡ map as_said items → length units ≡ length items
+pub units_counted : (units : List Said) (items : List Item) → units ≡ map as_said items → length units ≡ length items
 units_counted units items says = ap length says ∙ map-length items
 
 refused_here : (script : List ℕ) (rest : Option (List ℕ)) (reader : BinState) (units : List Said) (why : Reason) (here : Option (List ℕ))
