@@ -42,15 +42,15 @@ returns-in-Ok-write_lines-clause-ends g c = λ p at.
     (says_item c.args.item.now) c.clear.ensures.items answer
     (subst (λ (l : List Line). Appends before after (lines_text l)) c.deref-in-Err-HeapLimit.ensures.value c.in-Ok-write_lines.ensures.ends)
 
-pub returns-in-Err-write_lines-clause-ends : goal.returns-in-Err-write_lines-clause-ends
-returns-in-Err-write_lines-clause-ends g c = λ p at.
+pub returns-in-Err-clause-ends : goal.returns-in-Err-clause-ends
+returns-in-Err-clause-ends g c = λ p at.
     let before = g.K.Sink.written c.args.out.now in
     let after = g.K.Sink.written c.write_lines-in-Err-HeapLimit.new.out in
     let answer = rw c.in-Err-HeapLimit.field-0-is at c.in-Err-HeapLimit.ensures.answers p at in
     unit_exceeds_cut p c.args.number (Ok (Some c.args.item.now)) c.args.item.now c.in-Err-HeapLimit.counted c.in-Err-HeapLimit.request c.in-Err-HeapLimit.limit
-    c.clear.new.self.items c.item.new.out.items before after c.item.new.self c.item.new.heap c.in-Err-write_lines.stop
+    c.clear.new.self.items c.item.new.out.items before after c.item.new.self c.item.new.heap c.in-Err.stop
     (says_item c.args.item.now) c.clear.ensures.items answer
-    (subst (λ (l : List Line). WritesLines l before after (Err c.in-Err-write_lines.stop)) c.deref-in-Err-HeapLimit.ensures.value c.in-Err-write_lines.ensures.ends)
+    (subst (λ (l : List Line). WritesLines l before after (Err c.in-Err.stop)) c.deref-in-Err-HeapLimit.ensures.value c.in-Err.ensures.ends)
 
 pub returns-in-Err-Malformed-clause-ends : goal.returns-in-Err-Malformed-clause-ends
 returns-in-Err-Malformed-clause-ends g c = λ p at.
