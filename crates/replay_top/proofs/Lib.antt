@@ -4,3 +4,4 @@ pub mod Pieces
 pub mod RunEnds
 pub mod RunsOn
 pub mod UnitEnds
+pub mod Words

@@ -71,12 +71,6 @@ abbrev pub answer_of_convert : Result (Unit {0}) ConvertEnd → Result (Unit {0}
 answer_of_convert (Ok done) = Ok done
 answer_of_convert (Err end) = Err (stop_of_convert end)
 
--- What stands where a conversion is a run, by the run's answer.
-pub record ConvertsRun (script : Option (List ℕ)) (begun begun_after : Option ℕ) (rest before written : Option (List ℕ)) (stop : Result (Unit {0}) Stop) : Type 0 where
-  pub answer : Result (Unit {0}) ConvertEnd
-  pub stop_is : stop ≡ answer_of_convert answer
-  pub converts : Converts script begun begun_after rest before written answer
-
 -- What stands after `convert FILE`, by the status: one answer of the conversion has this status and this text.
 pub record RunsConvert (script : Option (List ℕ)) (begun begun_after : Option ℕ) (rest before written before_told told : Option (List ℕ)) (faults_before faults : ℕ) (status : Status) : Type 0 where
   pub answer : Result (Unit {0}) ConvertEnd

@@ -1,10 +1,10 @@
 //! The top call: words in, a status out.
-ghost use Rattle.std.specs.Prelude.{◌≡◌, None, IfSome, IsErrOf, IsTrue, option_copied, map, string_bytes};
+ghost use Rattle.std.specs.Prelude.{◌≡◌, None, IfSome, IsTrue, option_copied, map, string_bytes};
 ghost use Rattle.std.specs.Option.{ForSome};
 ghost use Rattle.std.specs.Io.KnownBytes.{Keeps};
 ghost use Rattle.heap_io.specs.Causes.{Rose};
 ghost use Rattle.heap_core.specs.Heap.{closed_heap};
-ghost use Rattle.replay_top.specs.Top.{named, replayed, converted, usage_text, stop_status, answer_status, answer_text, Tells, Replays, RunsConvert, ConvertsRun, IsComplete};
+ghost use Rattle.replay_top.specs.Top.{named, replayed, converted, usage_text, stop_status, Tells, Replays, RunsConvert, IsComplete};
 
 use crate::line::{Stop, stop_of_convert};
 use crate::script::replay;
@@ -70,39 +70,33 @@ pub fn run<F: Files, K: Sink, E: Sink>(
         IsComplete (F.bytes files.old name) (Rose (F.faults files.old) (F.faults files.new)) (Rose (K.faults out.old) (K.faults out.new)) result) }
 {
     if let Some(name) = named("replay", words) {
-        return ended(replay(alloc, name, files, out, heap), err);
+        return run_replay(alloc, name, files, out, err, heap);
     }
     if let Some(name) = named("convert", words) {
-        return ended(converted(alloc, name, files, out), err);
+        return run_convert(alloc, name, files, out, err);
     }
     tell(err, b"usage: replay FILE, or bench START COUNT, or convert FILE\n");
     Status::Usage
 }
 
-/// Writes a script in the other form.
-fn converted<F: Files, K: Sink>(
+/// Replays a script, and tells why it stopped.
+fn run_replay<F: Files, K: Sink, E: Sink>(
     alloc: Global,
     name: &[u8],
     files: &mut F,
     out: &mut K,
-) -> Result<(), Stop>
-    requires { IsTrue (F.may_begin files.old name.now) }
-    ensures converts { ConvertsRun (F.bytes files.old name.now) (F.begun files.old) (F.begun files.new) (F.rest files.new) (K.written out.old) (K.written out.new) result }
-    ensures read { IsErrOf result Stop.ReadFault → Rose (F.faults files.old) (F.faults files.new) }
-    ensures write { IsErrOf result Stop.WriteFault → Rose (K.faults out.old) (K.faults out.new) }
+    err: &mut E,
+    heap: &mut Heap,
+) -> Status
+    requires closed { heap.old ≡ closed_heap }
+    requires may_begin { IsTrue (F.may_begin files.old name.now) }
+    ensures replays { Replays (F.bytes files.old name.now) (F.begun files.old) (F.begun files.new) (F.rest files.new) (K.written out.old) (K.written out.new)
+        (E.written err.old) (E.written err.new) (E.faults err.old) (E.faults err.new) heap.new result }
+    ensures read { result ≡ Status.ReadFault → Rose (F.faults files.old) (F.faults files.new) }
+    ensures write { result ≡ Status.WriteFault → Rose (K.faults out.old) (K.faults out.new) }
+    ensures complete { IsComplete (F.bytes files.old name.now) (Rose (F.faults files.old) (F.faults files.new)) (Rose (K.faults out.old) (K.faults out.new)) result }
 {
-    match convert(alloc, name, files, out) {
-        Ok(()) => Ok(()),
-        Err(end) => Err(stop_of_convert(end)),
-    }
-}
-
-/// Tells why a run stopped, if it did, and gives its status.
-fn ended<E: Sink>(answer: Result<(), Stop>, err: &mut E) -> Status
-    ensures status { result ≡ answer_status answer }
-    ensures tells { Tells (E.written err.old) (E.written err.new) (E.faults err.old) (E.faults err.new) (answer_text answer) }
-{
-    match answer {
+    match replay(alloc, name, files, out, heap) {
         Ok(()) => Status::Done,
         Err(stop) => {
             tell_stop(err, stop);
@@ -111,9 +105,33 @@ fn ended<E: Sink>(answer: Result<(), Stop>, err: &mut E) -> Status
     }
 }
 
+/// Writes a script in the other form, and tells why it stopped.
+fn run_convert<F: Files, K: Sink, E: Sink>(
+    alloc: Global,
+    name: &[u8],
+    files: &mut F,
+    out: &mut K,
+    err: &mut E,
+) -> Status
+    requires { IsTrue (F.may_begin files.old name.now) }
+    ensures converts { RunsConvert (F.bytes files.old name.now) (F.begun files.old) (F.begun files.new) (F.rest files.new) (K.written out.old) (K.written out.new)
+        (E.written err.old) (E.written err.new) (E.faults err.old) (E.faults err.new) result }
+    ensures read { result ≡ Status.ReadFault → Rose (F.faults files.old) (F.faults files.new) }
+    ensures write { result ≡ Status.WriteFault → Rose (K.faults out.old) (K.faults out.new) }
+{
+    match convert(alloc, name, files, out) {
+        Ok(()) => Status::Done,
+        Err(end) => {
+            let stop = stop_of_convert(end);
+            tell_stop(err, stop);
+            stop_status(stop)
+        }
+    }
+}
+
 /// The name of the file, where the words are a command and that.
 fn named<'a>(command: &str, words: &'a [String]) -> Option<&'a [u8]>
-    ensures { option_copied result ≡ named (string_bytes command) (map string_bytes words.now) }
+    ensures { option_copied result ≡ named command.now (map string_bytes words.now) }
 {
     if words.len() != 2 {
         return None;
