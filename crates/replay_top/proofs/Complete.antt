@@ -1,6 +1,5 @@
 -- A run that no cause stops comes to its end.
-use Rattle.std.proofs.Common.{◌≡◌, ℕ, List, Option, Some, None, Err, refl, subst, inl, inr}
-use Rattle.store_model.specs.EndOfRun.{IsRefused, ExceedsLimit}
+use Rattle.std.proofs.Common.{◌≡◌, ℕ, List, Option, Some, None, Err, refl, inl, inr}
 use Rattle.replay_top.specs.declared.line.Stop.{Stop}
 use Rattle.replay_top.specs.declared.line.Stop.TheVariants.{Malformed, HeapLimit, OutOfMemory, ReadFault, WriteFault}
 use Rattle.replay_top.specs.declared.top.Status.{Status}
@@ -13,11 +12,10 @@ pub complete_err : (script : Option (List ℕ)) (begun begun_after : Option ℕ)
     → (stop ≡ ReadFault → read_rose) → (stop ≡ WriteFault → write_rose) → IsComplete script read_rose write_rose status
 complete_err None begun begun_after rest before written heap stop status read_rose write_rose ends is read write = tt
 complete_err (Some script) begun begun_after rest before written heap (Malformed k reason) status read_rose write_rose ends is read write = λ never no_read no_write.
-    absurd (never ends.front ends.line ends.behind ends.stands.text ends.stands.after ends.lines ends.stands.done
-    (inl (reason, subst (λ n. IsRefused ends.stands.after n ends.line reason) ends.number ends.refused)))
+    absurd (never ends.front ends.unit ends.behind ends.stands.text ends.stands.after ends.units ends.stands.done (inl (reason, ends.refused)))
 complete_err (Some script) begun begun_after rest before written heap (HeapLimit k counted request limit) status read_rose write_rose ends is read write = λ never no_read no_write.
-    absurd (never ends.front ends.line ends.behind ends.text ends.mid ends.lines ends.done
-    (inr (counted, request, limit, ends.groups, ends.after, subst (λ n. ExceedsLimit ends.mid n ends.line counted request limit ends.groups ends.after) ends.number ends.exceeds)))
+    absurd (never ends.front ends.unit ends.behind ends.text ends.mid ends.units ends.done
+    (inr (counted, request, limit, ends.groups, ends.after, ends.exceeds)))
 complete_err (Some script) begun begun_after rest before written heap OutOfMemory status read_rose write_rose ends is read write = λ never no_read no_write. inr is
 complete_err (Some script) begun begun_after rest before written heap ReadFault status read_rose write_rose ends is read write = λ never no_read no_write. absurd (no_read (read refl))
 complete_err (Some script) begun begun_after rest before written heap WriteFault status read_rose write_rose ends is read write = λ never no_read no_write. absurd (no_write (write refl))

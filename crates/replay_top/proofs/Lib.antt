@@ -1,6 +1,7 @@
 pub mod Complete
 pub mod DoneLaws
-pub mod LineEnds
 pub mod Pieces
 pub mod RunEnds
 pub mod RunsOn
+pub mod UnitEnds
+pub mod Words

@@ -1,4 +1,4 @@
-pub mod Lines
 pub mod Run
 pub mod Top
+pub mod Units
 pub mod Written

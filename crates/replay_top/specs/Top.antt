@@ -4,18 +4,32 @@ use Rattle.std.specs.Io.KnownBytes.{Appends}
 use Rattle.heap_io.specs.Causes.{Rose}
 use Rattle.store_model.specs.EndOfRun.{IsNeverRefused}
 use Rattle.store_model.specs.ErrorText.{malformed_text, limit_text, memory_text, read_fault_text, write_fault_text}
+use Rattle.script_convert.specs.declared.end.ConvertEnd.{ConvertEnd}
+use Rattle.script_convert.specs.Convert.{Converts}
 use Rattle.replay_top.specs.declared.line.Stop.{Stop}
 use Rattle.replay_top.specs.declared.line.Stop.TheVariants as stops
 use Rattle.replay_top.specs.declared.top.Status.{Status}
 use Rattle.replay_top.specs.declared.top.Status.TheVariants as statuses
 use Rattle.heap_core.specs.Heap.{HeapSeen}
-use Rattle.replay_top.specs.Written.{WritesPart}
-use Rattle.replay_top.specs.Run.{EndsRun}
+use Rattle.script_convert.specs.Written.{WritesPart}
+use Rattle.replay_top.specs.Run.{EndsRun, stop_of_convert}
+
+-- the name of the file, where the words are a command and that
+abbrev pub named : List ℕ → List (List ℕ) → Option (List ℕ)
+named command (word ∷ name ∷ []) = if bytes_eq word command then Some name else None
+named command words = None
 
 -- the name of the file, where the words are `replay FILE`
-abbrev pub asked : List (List ℕ) → Option (List ℕ)
-asked (command ∷ name ∷ []) = if bytes_eq command (codes "replay") then Some name else None
-asked words = None
+abbrev pub replayed : List (List ℕ) → Option (List ℕ)
+replayed words = named (codes "replay") words
+
+-- the name of the file, where the words are `convert FILE`
+abbrev pub converted : List (List ℕ) → Option (List ℕ)
+converted words = named (codes "convert") words
+
+-- of other words than the program takes
+abbrev pub usage_text : List ℕ
+usage_text = codes "usage: replay FILE, or bench START COUNT, or convert FILE\n"
 
 -- what is told of a stop
 abbrev pub stop_text : Stop → List ℕ
@@ -52,7 +66,19 @@ pub record Replays (script : Option (List ℕ)) (begun begun_after : Option ℕ)
   pub ends : EndsRun script begun begun_after rest before written heap answer
   pub tells : Tells before_told told faults_before faults (answer_text answer)
 
--- Where no line is refused, nor by the limit, and no count of faults rose, the run comes to its end, or memory runs out.
+-- what an answer of a conversion is to a run
+abbrev pub answer_of_convert : Result (Unit {0}) ConvertEnd → Result (Unit {0}) Stop
+answer_of_convert (Ok done) = Ok done
+answer_of_convert (Err end) = Err (stop_of_convert end)
+
+-- What stands after `convert FILE`, by the status: one answer of the conversion has this status and this text.
+pub record RunsConvert (script : Option (List ℕ)) (begun begun_after : Option ℕ) (rest before written before_told told : Option (List ℕ)) (faults_before faults : ℕ) (status : Status) : Type 0 where
+  pub answer : Result (Unit {0}) ConvertEnd
+  pub status_is : status ≡ answer_status (answer_of_convert answer)
+  pub converts : Converts script begun begun_after rest before written answer
+  pub tells : Tells before_told told faults_before faults (answer_text (answer_of_convert answer))
+
+-- Where no unit is refused, nor by the limit, and no count of faults rose, the run comes to its end, or memory runs out.
 abbrev pub IsComplete : Option (List ℕ) → Type 0 → Type 0 → Status → Type 0
 IsComplete None read_rose write_rose status = Unit {0}
 IsComplete (Some script) read_rose write_rose status =

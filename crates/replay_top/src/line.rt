@@ -1,20 +1,20 @@
-//! One line of the script: it is read, done, and its text is written.
-ghost use Rattle.std.specs.Prelude.{◌≡◌, ◌≤◌, length, IsErrOf, All};
-ghost use Rattle.heap_io.specs.Causes.{Rose, HasCause};
+//! One unit of the script: its item is done, and its text is written.
+ghost use Rattle.std.specs.Prelude.{◌≡◌, ◌≤◌, IsErrOf, All, Ok, Some};
+ghost use Rattle.heap_io.specs.Causes.{Rose};
 ghost use Rattle.store_model.specs.Progress.{Progress};
-ghost use Rattle.text_model.specs.Script.{bad_reason};
 ghost use Rattle.text_model.specs.Text.{IsProper};
 ghost use Rattle.session_core.specs.Standing.{IsPlaced, StandsAt};
-ghost use Rattle.replay_top.specs.Written.{Writes, WritesLines};
-ghost use Rattle.replay_top.specs.Lines.{EndsLine};
+ghost use Rattle.replay_top.specs.Written.{WritesLines};
+ghost use Rattle.replay_top.specs.Run.{stop_of_convert};
+ghost use Rattle.replay_top.specs.Units.{EndsUnit};
 
 use heap_core::Heap;
 use heap_io::{Failed, Sink};
 use line_text::print_lines;
-use script_text::parse_line;
+use script_convert::{ConvertEnd, write_all};
 use session_core::{RunFault, Session};
 use std::alloc::AllocError;
-use store_model::{BadLine, Line, Reason};
+use store_model::{Item, Line, Reason};
 
 /// Why a run stops before the script's end.
 #[derive(Clone, Copy, Debug, PartialEq, Eq)]
@@ -44,16 +44,16 @@ impl From<AllocError> for Stop {
     }
 }
 
-/// Writes all of a text, by calls on what is left of it.
-pub(crate) fn write_all<K: Sink>(out: &mut K, text: &[u8]) -> Result<(), Failed>
-    ensures writes { Writes (K.written out.old) (K.written out.new) text.now result }
-    ensures cause { HasCause (K.faults out.old) (K.faults out.new) result }
+/// How a run stops where a conversion does.
+pub(crate) fn stop_of_convert(end: ConvertEnd) -> Stop
+    ensures { result ≡ stop_of_convert end }
 {
-    let mut at = 0;
-    while at < text.len() {
-        at += out.write(&text[at..])?;
+    match end {
+        ConvertEnd::Malformed { unit, reason } => Stop::Malformed { line: unit, reason },
+        ConvertEnd::ReadFault => Stop::ReadFault,
+        ConvertEnd::WriteFault => Stop::WriteFault,
+        ConvertEnd::OutOfMemory => Stop::OutOfMemory,
     }
-    Ok(())
 }
 
 /// Writes the text of lines. What `text` held is gone.
@@ -71,10 +71,10 @@ fn write_lines<K: Sink>(lines: &[Line], text: &mut Vec<u8>, out: &mut K) -> Resu
     }
 }
 
-/// Does a line of the script, and writes its text; where the limit refuses it, that of its collections. What `lines` and
+/// Does the item of unit `number`, and writes its text; where the limit refuses it, that of its collections. What `lines` and
 /// `text` held is gone.
-pub(crate) fn do_line<K: Sink>(
-    line: &[u8],
+pub(crate) fn do_item<K: Sink>(
+    item: &Item,
     number: u64,
     session: &mut Session,
     heap: &mut Heap,
@@ -82,23 +82,14 @@ pub(crate) fn do_line<K: Sink>(
     text: &mut Vec<u8>,
     out: &mut K,
 ) -> Result<(), Stop>
-    requires number { number ≤ 16000000 }
-    requires line { length line.now ≤ 200 }
     requires placed { IsPlaced session.old heap.old }
     ensures ends { (at : Progress) → StandsAt session.old heap.old at →
-        EndsLine at number line.now (K.written out.old) (K.written out.new) session.new heap.new result }
+        EndsUnit at number (Ok (Some item.now)) (K.written out.old) (K.written out.new) session.new heap.new result }
     ensures later { K.faults out.old ≤ K.faults out.new }
     ensures fault { IsErrOf result Stop.WriteFault → Rose (K.faults out.old) (K.faults out.new) }
 {
-    let item = match parse_line(line) {
-        Ok(item) => item,
-        Err(bad) => return Err(Stop::Malformed {
-            line: number,
-            reason: bad_reason(bad),
-        }),
-    };
     lines.clear();
-    match session.item(heap, &item, lines) {
+    match session.item(heap, item, lines) {
         Ok(()) => write_lines(lines, text, out),
         Err(
             RunFault::HeapLimit {
@@ -120,15 +111,5 @@ pub(crate) fn do_line<K: Sink>(
             reason,
         }),
         Err(RunFault::OutOfMemory) => Err(Stop::OutOfMemory),
-    }
-}
-
-/// The reason that is told where a line has no item.
-fn bad_reason(bad: BadLine) -> Reason
-    ensures { result ≡ bad_reason bad }
-{
-    match bad {
-        BadLine::Syntax => Reason::Syntax,
-        BadLine::Range => Reason::Range,
     }
 }

@@ -2,12 +2,13 @@
 ghost use Rattle.std.specs.Prelude.{◌≡◌, ◌++◌, codes, decimal};
 ghost use Rattle.heap_io.specs.Causes.{HasCause};
 ghost use Rattle.store_model.specs.ErrorText.{reason_text, malformed_text, limit_text};
-ghost use Rattle.replay_top.specs.Written.{Writes};
+ghost use Rattle.script_convert.specs.Written.{Writes};
 ghost use Rattle.replay_top.specs.Top.{stop_text, Tells};
 
-use crate::line::{Stop, write_all};
+use crate::line::Stop;
 use heap_io::{Failed, Sink};
 use itoa::Buffer;
+use script_convert::write_all;
 use store_model::Reason;
 
 /// Writes a text. A failure changes nothing.

@@ -531,7 +531,7 @@ fn other_words_are_told(rt: HostRuntime) -> Result<(), Fail> {
         assert_eq!(rt; got.out.as_slice(), b"".as_slice());
         assert_eq!(rt;
             got.err.as_slice(),
-            b"usage: replay FILE, or bench START COUNT\n".as_slice()
+            b"usage: replay FILE, or bench START COUNT, or convert FILE\n".as_slice()
         );
         assert_eq!(rt; got.status, Status::Usage);
     }

@@ -3,15 +3,15 @@ ghost use Rattle.std.specs.Prelude.{◌≡◌, None, IfSome, IsTrue, option_copi
 ghost use Rattle.std.specs.Option.{ForSome};
 ghost use Rattle.std.specs.Io.KnownBytes.{Keeps};
 ghost use Rattle.heap_io.specs.Causes.{Rose};
-ghost use Rattle.store_model.specs.ErrorText.{usage_text};
 ghost use Rattle.heap_core.specs.Heap.{closed_heap};
-ghost use Rattle.replay_top.specs.Top.{asked, stop_status, Tells, Replays, IsComplete};
+ghost use Rattle.replay_top.specs.Top.{named, replayed, converted, usage_text, stop_status, Tells, Replays, RunsConvert, IsComplete};
 
-use crate::line::Stop;
+use crate::line::{Stop, stop_of_convert};
 use crate::script::replay;
 use crate::tell::{tell, tell_stop};
 use heap_core::Heap;
 use heap_io::{Files, Sink};
+use script_convert::convert;
 use std::alloc::Global;
 
 /// How a run of the program ends. Its number is the status of the process.
@@ -21,7 +21,7 @@ pub enum Status {
     Done = 0,
     /// The words are none of the forms.
     Usage = 1,
-    /// A line is refused.
+    /// A line or record is refused.
     Malformed = 2,
     /// A request does not fit under the limit.
     HeapLimit = 3,
@@ -30,8 +30,9 @@ pub enum Status {
     WriteFault = 6,
 }
 
-/// Runs the program for its words, which are `replay FILE`: does the lines of the file one after another over a closed
-/// heap, writes the transcript to `out`, and on a stop before the script's end why it stopped to `err`.
+/// Runs the program for its words. With `replay FILE` it does the units of the file, a script in either form, one after
+/// another over a closed heap, and writes the transcript to `out`; with `convert FILE` it writes the script in its other form
+/// to `out`. On a stop before the script's end it writes why it stopped to `err`.
 pub fn run<F: Files, K: Sink, E: Sink>(
     alloc: Global,
     words: &[String],
@@ -41,15 +42,22 @@ pub fn run<F: Files, K: Sink, E: Sink>(
     heap: &mut Heap,
 ) -> Status
     requires closed { heap.old ≡ closed_heap }
-    requires may_begin { ForSome (asked (map string_bytes words.now)) (λ name. IsTrue (F.may_begin files.old name)) }
+    requires may_begin { ForSome (replayed (map string_bytes words.now)) (λ name. IsTrue (F.may_begin files.old name)) }
+    requires may_convert { ForSome (converted (map string_bytes words.now)) (λ name. IsTrue (F.may_begin files.old name)) }
 
-    // What stands when a script was replayed, by the status.
-    ensures replays { IfSome (asked (map string_bytes words.now)) (λ name.
+    // What stands when a script was replayed, by the status. It is in either form.
+    ensures replays { IfSome (replayed (map string_bytes words.now)) (λ name.
         Replays (F.bytes files.old name) (F.begun files.old) (F.begun files.new) (F.rest files.new) (K.written out.old) (K.written out.new)
         (E.written err.old) (E.written err.new) (E.faults err.old) (E.faults err.new) heap.new result) }
 
+    // What stands when a script was converted, by the status. The heap stays closed.
+    ensures converts { IfSome (converted (map string_bytes words.now)) (λ name.
+        RunsConvert (F.bytes files.old name) (F.begun files.old) (F.begun files.new) (F.rest files.new) (K.written out.old) (K.written out.new)
+        (E.written err.old) (E.written err.new) (E.faults err.old) (E.faults err.new) result
+        × (heap.new ≡ closed_heap)) }
+
     // Other words change nothing, but that the usage is told.
-    ensures usage { asked (map string_bytes words.now) ≡ None → (result ≡ Status.Usage)
+    ensures usage { replayed (map string_bytes words.now) ≡ None → converted (map string_bytes words.now) ≡ None → (result ≡ Status.Usage)
         × Keeps (K.written out.old) (K.written out.new) × (heap.new ≡ closed_heap)
         × Tells (E.written err.old) (E.written err.new) (E.faults err.old) (E.faults err.new) usage_text }
 
@@ -58,13 +66,36 @@ pub fn run<F: Files, K: Sink, E: Sink>(
     ensures write { result ≡ Status.WriteFault → Rose (K.faults out.old) (K.faults out.new) }
 
     // Where nothing stops the run, it comes to the script's end.
-    ensures complete { IfSome (asked (map string_bytes words.now)) (λ name.
+    ensures complete { IfSome (replayed (map string_bytes words.now)) (λ name.
         IsComplete (F.bytes files.old name) (Rose (F.faults files.old) (F.faults files.new)) (Rose (K.faults out.old) (K.faults out.new)) result) }
 {
-    let Some(name) = asked(words) else {
-        tell(err, b"usage: replay FILE, or bench START COUNT\n");
-        return Status::Usage;
-    };
+    if let Some(name) = named("replay", words) {
+        return run_replay(alloc, name, files, out, err, heap);
+    }
+    if let Some(name) = named("convert", words) {
+        return run_convert(alloc, name, files, out, err);
+    }
+    tell(err, b"usage: replay FILE, or bench START COUNT, or convert FILE\n");
+    Status::Usage
+}
+
+/// Replays a script, and tells why it stopped.
+fn run_replay<F: Files, K: Sink, E: Sink>(
+    alloc: Global,
+    name: &[u8],
+    files: &mut F,
+    out: &mut K,
+    err: &mut E,
+    heap: &mut Heap,
+) -> Status
+    requires closed { heap.old ≡ closed_heap }
+    requires may_begin { IsTrue (F.may_begin files.old name.now) }
+    ensures replays { Replays (F.bytes files.old name.now) (F.begun files.old) (F.begun files.new) (F.rest files.new) (K.written out.old) (K.written out.new)
+        (E.written err.old) (E.written err.new) (E.faults err.old) (E.faults err.new) heap.new result }
+    ensures read { result ≡ Status.ReadFault → Rose (F.faults files.old) (F.faults files.new) }
+    ensures write { result ≡ Status.WriteFault → Rose (K.faults out.old) (K.faults out.new) }
+    ensures complete { IsComplete (F.bytes files.old name.now) (Rose (F.faults files.old) (F.faults files.new)) (Rose (K.faults out.old) (K.faults out.new)) result }
+{
     match replay(alloc, name, files, out, heap) {
         Ok(()) => Status::Done,
         Err(stop) => {
@@ -74,14 +105,38 @@ pub fn run<F: Files, K: Sink, E: Sink>(
     }
 }
 
-/// The name of the file, where the words are `replay FILE`.
-fn asked(words: &[String]) -> Option<&[u8]>
-    ensures { option_copied result ≡ asked (map string_bytes words.now) }
+/// Writes a script in the other form, and tells why it stopped.
+fn run_convert<F: Files, K: Sink, E: Sink>(
+    alloc: Global,
+    name: &[u8],
+    files: &mut F,
+    out: &mut K,
+    err: &mut E,
+) -> Status
+    requires { IsTrue (F.may_begin files.old name.now) }
+    ensures converts { RunsConvert (F.bytes files.old name.now) (F.begun files.old) (F.begun files.new) (F.rest files.new) (K.written out.old) (K.written out.new)
+        (E.written err.old) (E.written err.new) (E.faults err.old) (E.faults err.new) result }
+    ensures read { result ≡ Status.ReadFault → Rose (F.faults files.old) (F.faults files.new) }
+    ensures write { result ≡ Status.WriteFault → Rose (K.faults out.old) (K.faults out.new) }
+{
+    match convert(alloc, name, files, out) {
+        Ok(()) => Status::Done,
+        Err(end) => {
+            let stop = stop_of_convert(end);
+            tell_stop(err, stop);
+            stop_status(stop)
+        }
+    }
+}
+
+/// The name of the file, where the words are a command and that.
+fn named<'a>(command: &str, words: &'a [String]) -> Option<&'a [u8]>
+    ensures { option_copied result ≡ named command.now (map string_bytes words.now) }
 {
     if words.len() != 2 {
         return None;
     }
-    if words[0].as_str() != "replay" {
+    if words[0].as_str() != command {
         return None;
     }
     Some(words[1].as_bytes())

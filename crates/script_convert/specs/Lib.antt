@@ -1,4 +1,3 @@
 pub mod Convert
-pub mod Ends
-pub mod EndsLines
+pub mod Reader
 pub mod Written

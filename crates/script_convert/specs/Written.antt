@@ -1,18 +1,8 @@
 -- What writing a piece leaves in a sink.
 use Rattle.std.specs.Prelude.{◌≡◌, ℕ, ◌<◌, List, [], ◌∷◌, ◌++◌, length, Option, Result, Ok, Err}
 use Rattle.std.specs.Io.KnownBytes.{Appends, Keeps}
-use Rattle.text_model.specs.declared.item.Item.{Item}
-use Rattle.text_model.specs.ItemText.{item_text}
 use Rattle.script_convert.specs.declared.end.ConvertEnd.{ConvertEnd}
 use Rattle.script_convert.specs.declared.end.ConvertEnd.TheVariants.{Malformed, ReadFault, WriteFault, OutOfMemory}
-
--- the line of an item, with its LF
-abbrev pub item_line : Item → List ℕ
-item_line item = item_text item ++ 10 ∷ []
-
-abbrev pub items_lines : List Item → List ℕ
-items_lines [] = []
-items_lines (item ∷ items) = item_line item ++ items_lines items
 
 -- A part of the piece was written, and not all of it.
 pub record WritesPart (before after : Option (List ℕ)) (piece : List ℕ) : Type 0 where

@@ -1,9 +1,6 @@
 //! Why a conversion stops before the script's end.
-
 ghost use Rattle.std.specs.Prelude.{◌≡◌};
-ghost use Rattle.script_convert.specs.Ends.{end_of_records};
 
-use script_binary::BinEnd;
 use std::alloc::AllocError;
 use text_model::Reason;
 
@@ -26,26 +23,5 @@ impl From<AllocError> for ConvertEnd {
 
     fn from(_: AllocError) -> Self {
         ConvertEnd::OutOfMemory
-    }
-}
-
-/// How a conversion stops where a record is not read.
-pub(crate) fn end_of_records(unit: u64, end: BinEnd) -> ConvertEnd
-    ensures { result ≡ end_of_records unit end }
-{
-    match end {
-        BinEnd::TooMany => ConvertEnd::Malformed {
-            unit,
-            reason: Reason::TooManyLines,
-        },
-        BinEnd::Syntax => ConvertEnd::Malformed {
-            unit,
-            reason: Reason::Syntax,
-        },
-        BinEnd::Range => ConvertEnd::Malformed {
-            unit,
-            reason: Reason::Range,
-        },
-        BinEnd::ReadFault => ConvertEnd::ReadFault,
     }
 }

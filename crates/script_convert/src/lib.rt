@@ -1,16 +1,16 @@
-//! A script is written in the other form: each item that is not blank as its record or as its line. (This project's own.)
+//! A script of either form: it is read unit by unit, and written in the other form, each item that is not blank as its record or as
+//! its line. (This project's own.)
 #![tactic(auto)]
 
 mod end;
 mod form;
-mod lines;
-mod records;
+mod reader;
 mod write;
 
 pub use end::ConvertEnd;
 pub use form::convert;
-pub use lines::records_of_lines;
-pub use records::lines_of_records;
+pub use reader::{ScriptReader, UnitEnd};
+pub use write::write_all;
 
 #[cfg(test)]
 mod tests;

@@ -1,5 +1,5 @@
 use Rattle.std.proofs.Common.{ℕ, List, ◌++◌, subst, ◌∙◌}
-use Rattle.replay_top.specs.Written.{Writes}
+use Rattle.script_convert.specs.Written.{Writes}
 use Rattle.replay_top.proofs.tell.write_number.Goals as goal
 
 pub returns-clause-writes : goal.returns-clause-writes

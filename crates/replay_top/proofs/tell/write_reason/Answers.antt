@@ -2,7 +2,7 @@ use Rattle.std.proofs.Common.{ℕ, List, ◌++◌, codes, refl, subst}
 use Rattle.std.proofs.lemmas.Result.{err_from_is_err_and}
 use Rattle.std.specs.Io.KnownBytes.{Appends}
 use Rattle.store_model.specs.ErrorText.{reason_text}
-use Rattle.replay_top.specs.Written.{WritesPart}
+use Rattle.script_convert.specs.Written.{WritesPart}
 use Rattle.replay_top.proofs.Pieces.{writes_first, writes_both}
 use Rattle.replay_top.proofs.tell.write_reason.Goals as goal
 
