@@ -50,14 +50,6 @@ collection_ends old new command same before after (Ok done) is alive performs er
 collection_ends old new command same before after (Err fault) is alive performs err err_out cause =
     subst (λ (f : HeapFault). EndsCommand command old new before after (Err f)) (sym (cause ∙ ap fault_of alive)) (([], err_out ∙ sym (append-nil before)), inl (spent_is new err))
 
--- another command
-pub other_ends : (old new : HeapSeen) (command : Command) (before after : List Line) (result : Result (Unit {0}) HeapFault)
-    → OnOk result (Performs old new command before after) → OnErr result (Keeps old new) → OnErr result (KeepsFront before after) → IfErr result (λ fault. fault ≡ OutOfMemory)
-    → EndsCommand command old new before after result
-other_ends old new command before after (Ok done) performs err err_out cause = performs
-other_ends old new command before after (Err fault) performs err err_out cause =
-    subst (λ (f : HeapFault). EndsCommand command old new before after (Err f)) (sym cause) (err_out, inr (inl err))
-
 -- a heap that is not spent does not fail so
 pub fails_alive : (old new : HeapSeen) (command : Command) (before after : List Line) (fault : HeapFault) → EndsCommand command old new before after (Err fault) → fault ≢ Spent
 fails_alive old new command before after Spent ends = absurd ends

@@ -1,5 +1,5 @@
 use Rattle.std.proofs.Common.{refl}
-use Rattle.session_core.proofs.Collecting.{birth_ends, collection_ends, other_ends}
+use Rattle.session_core.proofs.Collecting.{birth_ends, collection_ends}
 use Rattle.session_core.proofs.commands.do_command.Goals as goal
 
 pub returns-in-NewFixed : goal.returns-in-NewFixed
@@ -28,8 +28,3 @@ pub returns-in-Collect : goal.returns-in-Collect
 returns-in-Collect c =
     collection_ends c.args.heap.now c.collect.new.self c.args.command.now _ c.args.out.now.items c.collect.new.out.items c.collect.result c.in-Collect.is c.requires.alive
     c.collect.ensures.performs c.collect.ensures.err c.collect.ensures.err_out c.collect.ensures.cause
-
-pub returns : goal.returns
-returns c =
-    other_ends c.args.heap.now c.do_at_once.new.heap c.args.command.now c.args.out.now.items c.do_at_once.new.out.items c.do_at_once.result
-    c.do_at_once.ensures.performs c.do_at_once.ensures.err c.do_at_once.ensures.err_out c.do_at_once.ensures.cause
