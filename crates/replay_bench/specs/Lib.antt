@@ -1,0 +1,4 @@
+pub mod Bench
+pub mod Items
+pub mod Summary
+pub mod Written
