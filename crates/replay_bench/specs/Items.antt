@@ -1,4 +1,4 @@
--- What the calls inside say: of one item, of all items, and of the text of the summary.
+-- What the calls inside say: of one item, and of all items.
 use Rattle.std.specs.Prelude.{◌≡◌, ℕ, List, length, None, Some, Result, Ok, Err}
 use Rattle.text_model.specs.declared.item.Item.{Item}
 use Rattle.store_model.specs.Progress.{Progress, at_start}
@@ -10,7 +10,7 @@ use Rattle.session_core.specs.Standing.{StandsAt}
 use Rattle.replay_bench.specs.declared.tally.Tally.{Tally}
 use Rattle.replay_bench.specs.declared.top.BenchEnd.{BenchEnd}
 use Rattle.replay_bench.specs.declared.top.BenchEnd.TheVariants.{Malformed, HeapLimit, OutOfMemory, WriteFault}
-use Rattle.replay_bench.specs.Bench.{refused_for, Summarizes, HasNoSummary}
+use Rattle.replay_bench.specs.Bench.{refused_for, HasNoSummary}
 use Rattle.replay_bench.specs.Summary.{tally_of, tally_plus}
 
 -- From `at`, the item was done, and its groups are counted.
@@ -52,8 +52,3 @@ pub record CountsItems (items : List Item) (tally : Tally) (session : SessionSee
 abbrev pub EndsItems : List Item → SessionSeen → HeapSeen → Result Tally BenchEnd → Type 0
 EndsItems items session heap (Ok tally) = CountsItems items tally session heap
 EndsItems items session heap (Err end) = HasNoSummary items heap end
-
--- what came of the text, by the answer
-abbrev pub EndsText : List Item → HeapSeen → Result (List ℕ) BenchEnd → Type 0
-EndsText items heap (Ok text) = Summarizes items heap (λ summary. text ≡ summary)
-EndsText items heap (Err end) = HasNoSummary items heap end

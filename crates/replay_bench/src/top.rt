@@ -1,10 +1,9 @@
 //! The summary of a generated script.
-ghost use Rattle.std.specs.Prelude.{◌≡◌, ◌≤◌, IsErrOf};
+ghost use Rattle.std.specs.Prelude.{◌≡◌, ◌≤◌, IfOk, IfErr, IsErrOf};
 ghost use Rattle.heap_io.specs.Causes.{Rose};
 ghost use Rattle.text_model.specs.Generated.{generated_items};
 ghost use Rattle.heap_core.specs.Heap.{closed_heap};
-ghost use Rattle.replay_bench.specs.Bench.{EndsBench};
-ghost use Rattle.replay_bench.specs.Items.{EndsText};
+ghost use Rattle.replay_bench.specs.Bench.{EndsBench, Summarizes, HasNoSummary};
 
 use crate::items::do_items;
 use crate::summary::print_summary;
@@ -69,7 +68,8 @@ pub fn bench<K: Sink>(
 fn summary_of(alloc: Global, start: u64, count: u32, heap: &mut Heap) -> Result<Vec<u8>, BenchEnd>
     requires few { count ≤ 100000 }
     requires closed { heap.old ≡ closed_heap }
-    ensures { EndsText (generated_items start count) heap.new (result_map (λ text. text.items) result) }
+    ensures ok { IfOk result (λ text. Summarizes (generated_items start count) heap.new (λ summary. text.items ≡ summary)) }
+    ensures err { IfErr result (HasNoSummary (generated_items start count) heap.new) }
 {
     let mut session = Session::new(alloc)?;
     let tally = do_items(alloc, start, count, &mut session, heap)?;
