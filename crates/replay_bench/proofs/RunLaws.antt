@@ -1,5 +1,6 @@
 -- Runs of items: one more, and what stands behind a command.
-use Rattle.std.proofs.Common.{◌≡◌, ℕ, ◌+◌, zero, suc, true, List, [], ◌∷◌, ◌++◌, length, map, None, refl, sym, ap, ◌∙◌, subst, arith, append_assoc, append-nil, length-append, length-map}
+use Rattle.std.proofs.Common.{◌≡◌, ℕ, ◌+◌, zero, suc, true, List, [], ◌∷◌, ◌++◌, length, map, None, refl, sym, ap, ◌∙◌, subst, arith, append_assoc, append-nil, length-append}
+use Rattle.std.proofs.lemmas.List.{length-map}
 use Rattle.std.proofs.lemmas.List.{map-append}
 use Rattle.text_model.specs.declared.command.Command.{Command}
 use Rattle.text_model.specs.declared.command.Command.TheVariants.{Collect}
@@ -54,10 +55,16 @@ generated_end start n =
 
 length_drawn : (x n : ℕ) → length (drawn_commands x n) ≡ n
 length_drawn x zero = refl
-length_drawn x (suc n) = ap (λ k. k + 1) (length_drawn (next_drawn x) n)
+length_drawn x (suc n) = ap suc (length_drawn (next_drawn x) n)
 
-pub length_generated : (start n : ℕ) → length (generated_items start n) ≡ n + 21
-length_generated start n =
-    let rest : length (map CommandItem (drawn_commands start n ++ Collect ∷ [])) ≡ n + 1 =
-    length-map (drawn_commands start n ++ Collect ∷ []) CommandItem ∙ length-append (drawn_commands start n) (Collect ∷ []) ∙ ap (λ k. k + 1) (length_drawn start n) in
-    ap (λ k. k + 20) rest ∙ (let e : (n + 1) + 20 ≡ n + 21 = omega arith in e)
+length_parts : (header : List Item) (filling drawn : List Command) (a b c : ℕ) → length header ≡ a → length filling ≡ b → length drawn ≡ c
+    → length (header ++ map CommandItem (filling ++ (drawn ++ Collect ∷ []))) ≡ a + (b + (c + 1))
+length_parts header filling drawn a b c is_a is_b is_c =
+    let behind : List Command = drawn ++ Collect ∷ [] in
+    length-append header (map CommandItem (filling ++ behind))
+    ∙ ap (λ k. length header + k) (length-map (filling ++ behind) CommandItem ∙ length-append filling behind
+    ∙ ap (λ k. length filling + k) (length-append drawn (Collect ∷ [])))
+    ∙ rw (is_a, is_b, is_c) refl
+
+pub length_generated : (start n : ℕ) → length (generated_items start n) ≡ 5 + (15 + (n + 1))
+length_generated start n = length_parts generated_header filling_commands (drawn_commands start n) 5 15 n refl refl (length_drawn start n)

@@ -3,6 +3,7 @@ use Rattle.std.proofs.Common.{◌≡◌, ℕ, ◌+◌, ◌<◌, ◌≤◌, List,
 use Rattle.text_model.specs.declared.item.Item.{Item}
 use Rattle.text_model.specs.declared.item.Reason.{Reason}
 use Rattle.text_model.specs.declared.line.Line.{Line}
+use Rattle.text_model.specs.Generated.{generated_items}
 use Rattle.object_model.specs.Setup.{defaults}
 use Rattle.store_model.specs.Progress.{Progress, at_start}
 use Rattle.store_model.specs.Refusal.{refusal}
@@ -19,7 +20,7 @@ use Rattle.replay_bench.specs.Bench.{refused_for, HasNoSummary}
 use Rattle.replay_bench.specs.Items.{CountsItem, LimitsItem, CountsItems, EndsItem}
 use Rattle.replay_bench.specs.Summary.{tally_of, tally_plus, commands_of}
 use Rattle.replay_bench.proofs.Counting.{tally_behind, groups_of_item}
-use Rattle.replay_bench.proofs.RunLaws.{runs_more}
+use Rattle.replay_bench.proofs.RunLaws.{runs_more, length_generated}
 
 -- what the program does not refuse, the store does not
 accepts : (at : Progress) (item : Item) → refused_for at item ≡ None → refusal at item ≡ None
@@ -49,7 +50,7 @@ done_first items ahead tally session heap same none first closed = record {
 }
 
 -- fewer items are done than there are
-pub some_ahead : (items ahead rest : List Item) (item : Item) (number : ℕ) (tally : Tally) (session : SessionSeen) (heap : HeapSeen)
+some_ahead : (items ahead rest : List Item) (item : Item) (number : ℕ) (tally : Tally) (session : SessionSeen) (heap : HeapSeen)
     → IsDoneTo items ahead number tally session heap → ahead ≡ item ∷ rest → number + 1 ≤ length items
 some_ahead items ahead rest item number tally session heap so is =
     let all : length items ≡ length so.done + length (item ∷ rest) =
@@ -135,12 +136,18 @@ counts_item item tally new session heap at before lines none does is = record {
 }
 
 -- an item that the limit refused
-pub limits_item : (item : Item) (session : SessionSeen) (heap : HeapSeen) (at : Progress) (counted request limit : ℕ) (before lines : List Line)
-    → ExceedsItem session heap at item counted request limit before lines → LimitsItem at item counted request limit session heap
-limits_item item session heap at counted request limit before lines e = record {
+pub limits_item : (item : Item) (session : SessionSeen) (heap : HeapSeen) (at : Progress) (counted request limit a b c : ℕ) (before lines : List Line)
+    → a ≡ counted → b ≡ request → c ≡ limit → ExceedsItem session heap at item counted request limit before lines → LimitsItem at item a b c session heap
+limits_item item session heap at counted request limit a b c before lines is_a is_b is_c e = rw (is_a, is_b, is_c) (record {
   groups = e.groups;
   after = e.next;
   accepted = accepts at item e.accepted;
   exceeds = e.exceeds;
   stands = e.stands;
-}
+})
+
+-- the number of the next item
+pub number_fits : (start n : ℕ) (ahead rest : List Item) (item : Item) (number : ℕ) (tally : Tally) (session : SessionSeen) (heap : HeapSeen)
+    → IsDoneTo (generated_items start n) ahead number tally session heap → ahead ≡ item ∷ rest → n ≤ 100000 → number + 1 ≤ 100021
+number_fits start n ahead rest item number tally session heap so is few =
+    omega (arith, some_ahead (generated_items start n) ahead rest item number tally session heap so is, length_generated start n, few)
