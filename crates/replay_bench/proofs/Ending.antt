@@ -9,7 +9,8 @@ use Rattle.text_model.specs.declared.item.Item.{Item}
 use Rattle.text_model.specs.declared.line.Line.{Line}
 use Rattle.text_model.specs.declared.line.Line.TheVariants.{UsedIs}
 use Rattle.text_model.specs.Generated.{generated_items}
-use Rattle.text_model.specs.Text.{line_text}
+use Rattle.text_model.specs.Range.{is_above}
+use Rattle.text_model.specs.Text.{line_text, IsProper}
 use Rattle.object_model.specs.declared.settings.Settings.{Settings}
 use Rattle.object_model.specs.Object.{kept_words}
 use Rattle.store_model.specs.Store.{Store, husk_words}
@@ -40,6 +41,7 @@ late_at_end start n tally session heap all =
 -- a heap behind a command can tell its words
 used_in : (types : Option (Table TypeInfo)) (settings : Settings) (heap : HeapSeen) (store : Store) → is_none types ≡ true → HasHeap types settings heap
     → HasStore types settings heap store → CanDo heap Used
+unfolding is_above
 used_in (Some types) settings heap store none has stands = absurd (let no : ⊥ = cc in no)
 used_in None settings heap store none has stands =
     let ready : AreReady has.parts Used = record {
@@ -67,6 +69,14 @@ used_line : (heap new : HeapSeen) (store : Store) (line : Line) → StandsFor he
 used_line heap new store line stands p =
     let done = p.does store stands in
     same_line line (UsedIs (kept_words store.kept) (husk_words store.husks)) (p.appended ∙ does_used heap.parts store done.0 p.lines done.1)
+
+-- these words are told
+pub used_told : (heap : HeapSeen) (kept husks a b : ℕ) → a ≡ kept → b ≡ husks → Performs heap heap Used [] (UsedIs a b ∷ []) → Performs heap heap Used [] (UsedIs kept husks ∷ [])
+used_told heap kept husks a b is_a is_b p = rw (← is_a, ← is_b) p
+
+pub proper_used : (kept husks : ℕ) → IsProper (UsedIs kept husks)
+unfolding IsProper
+proper_used kept husks = tt
 
 -- the text is the summary
 pub summarizes : (items : List Item) (tally : Tally) (session : SessionSeen) (heap : HeapSeen) (line : Line) (empty text : List ℕ)
