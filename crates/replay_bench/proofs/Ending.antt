@@ -1,7 +1,6 @@
 -- The summary behind a generated script, and what stands when it was written.
-use Rattle.std.proofs.Common.{◌≡◌, ℕ, ◌∷◌, Bool, true, false, List, [], ◌++◌, Option, Some, None, Result, Ok, Err, refl, sym, ap, ◌∙◌, subst}
+use Rattle.std.proofs.Common.{◌≡◌, ℕ, ◌∷◌, true, List, [], ◌++◌, Option, Some, None, refl, sym, ap, ◌∙◌, subst}
 use Rattle.std.specs.Prelude.{is_none}
-use Rattle.std.specs.Io.KnownBytes.{Appends, Keeps}
 use Rattle.type_table.specs.declared.info.TypeInfo.{TypeInfo}
 use Rattle.type_table.specs.Table.{Table}
 use Rattle.text_model.specs.declared.command.Command.TheVariants.{Used, Collect}
@@ -14,22 +13,19 @@ use Rattle.text_model.specs.Text.{line_text, IsProper}
 use Rattle.object_model.specs.declared.settings.Settings.{Settings}
 use Rattle.object_model.specs.Object.{kept_words}
 use Rattle.store_model.specs.Store.{Store, husk_words}
-use Rattle.store_model.specs.Progress.{Progress, at_start}
+use Rattle.store_model.specs.Progress.{at_start}
 use Rattle.store_model.specs.Steps.{Does}
 use Rattle.store_model.specs.Transcript.{Runs}
 use Rattle.heap_parts.specs.Parts.{HeapParts}
 use Rattle.heap_core.specs.Heap.{HeapSeen, StandsFor}
 use Rattle.heap_core.specs.Commands.{AreReady, CanDo, OfParts, Performs}
 use Rattle.session_core.specs.Seen.{SessionSeen}
-use Rattle.session_core.specs.Standing.{StandsAt, IsStarted, HasHeap, HasStore}
+use Rattle.session_core.specs.Standing.{HasHeap, HasStore}
 use Rattle.session_core.proofs.Places.{heap_stands}
 use Rattle.replay_bench.specs.declared.tally.Tally.{Tally}
-use Rattle.replay_bench.specs.declared.top.BenchEnd.{BenchEnd}
-use Rattle.replay_bench.specs.declared.top.BenchEnd.TheVariants.{Malformed, HeapLimit, OutOfMemory, WriteFault}
-use Rattle.replay_bench.specs.Bench.{Summarizes, HasNoSummary, EndsBench}
+use Rattle.replay_bench.specs.Bench.{Summarizes}
 use Rattle.replay_bench.specs.Items.{CountsItems}
-use Rattle.replay_bench.specs.Summary.{tally_of, tally_text, summary_text}
-use Rattle.replay_bench.specs.Written.{WritesPart}
+use Rattle.replay_bench.specs.Summary.{tally_of, tally_text}
 use Rattle.replay_bench.proofs.RunLaws.{items_in_front, generated_end, late_behind}
 
 -- a generated script ends with a command
@@ -93,16 +89,3 @@ summarizes items tally session heap line empty text all p none is =
           ∙ ap (λ (l : Line). tally_text (tally_of all.groups) ++ line_text l) (used_line heap heap all.at.store line stands.store p)));
       stands = stands;
     }
-
--- what holds of the text holds of the summary
-pub says_text : (items : List Item) (heap : HeapSeen) (text : List ℕ) (Says : List ℕ → Type 0) → Summarizes items heap (λ summary. text ≡ summary)
-    → Says text → Summarizes items heap Says
-says_text items heap text Says s holds = record { groups = s.groups; after = s.after; runs = s.runs; says = subst Says s.says holds; stands = s.stands }
-
--- where there is no summary nothing was written
-pub ends_unwritten : (items : List Item) (before written : Option (List ℕ)) (heap : HeapSeen) (end : BenchEnd) → HasNoSummary items heap end → Keeps before written
-    → EndsBench items before written heap (Err end)
-ends_unwritten items before written heap (Malformed k reason) none keeps = (none, keeps)
-ends_unwritten items before written heap (HeapLimit k counted request limit) none keeps = (none, keeps)
-ends_unwritten items before written heap OutOfMemory none keeps = keeps
-ends_unwritten items before written heap WriteFault none keeps = absurd none

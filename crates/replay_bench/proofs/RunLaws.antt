@@ -1,12 +1,12 @@
 -- Runs of items: one more, and what stands behind a command.
-use Rattle.std.proofs.Common.{◌≡◌, ℕ, ◌+◌, zero, suc, true, List, [], ◌∷◌, ◌++◌, length, map, None, refl, sym, ap, ◌∙◌, subst, arith, append_assoc, append-nil, length-append}
+use Rattle.std.proofs.Common.{◌≡◌, ℕ, ◌+◌, zero, suc, true, List, [], ◌∷◌, ◌++◌, length, map, None, refl, sym, ap, ◌∙◌, subst, append_assoc, append-nil, length-append}
 use Rattle.std.proofs.lemmas.List.{length-map}
 use Rattle.std.proofs.lemmas.List.{map-append}
 use Rattle.text_model.specs.declared.command.Command.{Command}
 use Rattle.text_model.specs.declared.command.Command.TheVariants.{Collect}
 use Rattle.text_model.specs.declared.item.Item.{Item}
 use Rattle.text_model.specs.declared.item.Item.TheVariants.{Command as CommandItem}
-use Rattle.text_model.specs.Generated.{generated_header, filling_commands, drawn_commands, generated_items, next_drawn, drawn_command}
+use Rattle.text_model.specs.Generated.{generated_header, filling_commands, drawn_commands, generated_items, next_drawn}
 use Rattle.store_model.specs.Progress.{Progress}
 use Rattle.store_model.specs.Refusal.{refusal}
 use Rattle.store_model.specs.Transcript.{Group, ItemDoes, Runs}

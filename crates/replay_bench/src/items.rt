@@ -15,7 +15,7 @@ use session_core::{RunFault, Session};
 use std::alloc::Global;
 use store_model::{Item, Line};
 
-/// Does an item, and counts its lines. What `lines` held is gone.
+/// Does item `number` of the script, and counts its lines. What `lines` held is gone.
 fn do_item(
     item: &Item,
     number: u64,
@@ -68,7 +68,7 @@ pub(crate) fn do_items(
 {
     let mut ahead = Generator::new(start, count);
     let mut lines = Vec::new(alloc);
-    let mut tally = Tally::none();
+    let mut tally = Tally::new();
     let mut number = 0;
     while let Some(item) = ahead.next() {
         number += 1;

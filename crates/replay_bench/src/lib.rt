@@ -8,6 +8,3 @@ mod top;
 mod write;
 
 pub use top::{BenchEnd, bench};
-
-#[cfg(test)]
-mod tests;

@@ -4,7 +4,7 @@ ghost use Rattle.replay_bench.specs.Summary.{is_birth, is_minor, ends_cycle, how
 
 use store_model::{Item, Line, Phase};
 
-/// What is counted of a transcript.
+/// What is counted of a transcript: commands, lines, births, minor collections, and ends of cycles of major collections.
 #[derive(Clone, Copy, Debug, PartialEq, Eq)]
 pub(crate) struct Tally {
     pub(crate) commands: u64,
@@ -16,7 +16,7 @@ pub(crate) struct Tally {
 
 impl Tally {
     /// Nothing is counted yet.
-    pub(crate) fn none() -> Tally
+    pub(crate) fn new() -> Tally
         ensures { result ≡ tally_of [] }
     {
         Tally {
@@ -89,11 +89,11 @@ fn is_minor(line: &Line) -> bool
 fn ends_cycle(line: &Line) -> bool
     ensures { result ≡ ends_cycle line.now }
 {
-    match line {
+    matches!(
+        line,
         Line::Stepped {
             from: Phase::Finalizing,
-            to: Phase::Scanning,
-        } => true,
-        _ => false,
-    }
+            to: Phase::Scanning
+        }
+    )
 }

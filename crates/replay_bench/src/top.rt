@@ -14,19 +14,26 @@ use session_core::Session;
 use std::alloc::{AllocError, Global};
 use store_model::{Line, Reason};
 
-/// Why a generated script has no summary.
+/// Why no summary was written of a generated script. Its items have a line each, and `line` counts these from 1.
 #[derive(Clone, Copy, Debug, PartialEq, Eq)]
 pub enum BenchEnd {
-    /// A line of the script is refused.
-    Malformed { line: u64, reason: Reason },
-    /// The birth of a line does not fit under the limit, even after a whole collection.
+    /// The line is refused for this reason.
+    Malformed {
+        line: u64,
+        reason: Reason,
+    },
+    /// The birth of the line does not fit under the limit, even after a whole collection.
     HeapLimit {
         line: u64,
+        /// The words of all objects and husks.
         counted: u64,
+        /// The words of the object that was to be born.
         request: u64,
+        /// The setting.
         limit: u64,
     },
     OutOfMemory,
+    /// A call of the sink failed.
     WriteFault,
 }
 
@@ -40,7 +47,13 @@ impl From<AllocError> for BenchEnd {
     }
 }
 
-/// Does the generated script, and writes the summary.
+/// Does the items of the script with `count` drawn commands, of which the sequence begins behind `start`, over a closed heap, and
+/// writes the summary of their transcript, which itself is not written: the lines `commands N`, `lines N`, `births N`, `minors N`,
+/// `cycles N` and `used K H`. (Scripts and summary are this project's own.)
+///
+/// At `Malformed` and `HeapLimit` the items in front of the line are done, and at `HeapLimit` the collections of its birth; at
+/// `OutOfMemory` nothing is said of the heap. Nothing is written then. At `WriteFault` all items are done, and of the summary
+/// not all was written.
 pub fn bench<K: Sink>(
     alloc: Global,
     start: u64,
@@ -64,7 +77,7 @@ pub fn bench<K: Sink>(
     }
 }
 
-/// Does the generated script, and answers the text of the summary.
+/// Does the generated script, and answers the text of its summary.
 fn summary_of(alloc: Global, start: u64, count: u32, heap: &mut Heap) -> Result<Vec<u8>, BenchEnd>
     requires few { count ≤ 100000 }
     requires closed { heap.old ≡ closed_heap }
