@@ -5,7 +5,7 @@ ghost use Rattle.replay_bench.specs.Summary.{is_birth, is_minor, ends_cycle, how
 use store_model::{Item, Line, Phase};
 
 /// What is counted of a transcript: commands, lines, births, minor collections, and ends of cycles of major collections.
-#[derive(Clone, Copy, Debug, PartialEq, Eq)]
+#[derive(Clone, Copy)]
 pub(crate) struct Tally {
     pub(crate) commands: u64,
     pub(crate) lines: u64,
