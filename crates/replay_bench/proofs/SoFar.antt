@@ -1,0 +1,152 @@
+-- A script that is done up to some item, and how it goes on and stops.
+use Rattle.std.proofs.Common.{◌≡◌, ℕ, ◌+◌, ◌≤◌, List, [], ◌∷◌, ◌++◌, length, Some, None, Err, refl, sym, ap, ◌∙◌, subst, arith, append_assoc, append-nil, length-append}
+use Rattle.text_model.specs.declared.item.Item.{Item}
+use Rattle.text_model.specs.declared.line.Line.{Line}
+use Rattle.text_model.specs.Generated.{generated_items}
+use Rattle.object_model.specs.Setup.{defaults}
+use Rattle.store_model.specs.Progress.{Progress, at_start}
+use Rattle.store_model.specs.Refusal.{refusal}
+use Rattle.store_model.specs.Transcript.{group_lines}
+use Rattle.heap_core.specs.Heap.{HeapSeen, closed_heap}
+use Rattle.session_core.specs.Seen.{SessionSeen}
+use Rattle.session_core.specs.Standing.{StandsAt, DoesItem, ExceedsItem}
+use Rattle.session_core.proofs.Passing.{language_accepts}
+use Rattle.session_core.proofs.Places.{stands_first, heap_stands}
+use Rattle.replay_bench.specs.declared.tally.Tally.{Tally}
+use Rattle.replay_bench.specs.declared.top.BenchEnd.{BenchEnd}
+use Rattle.replay_bench.specs.declared.top.BenchEnd.TheVariants.{Malformed, HeapLimit, OutOfMemory, WriteFault}
+use Rattle.replay_bench.specs.Bench.{refused_for, HasNoSummary}
+use Rattle.replay_bench.specs.Items.{CountsItem, LimitsItem, CountsItems, EndsItem}
+use Rattle.replay_bench.specs.Summary.{tally_of, tally_plus, commands_of}
+use Rattle.replay_bench.proofs.Counting.{tally_behind, groups_of_item}
+use Rattle.replay_bench.proofs.RunLaws.{runs_more, length_generated}
+
+-- what the program does not refuse, the store does not
+accepts : (at : Progress) (item : Item) → refused_for at item ≡ None → refusal at item ≡ None
+accepts at item e = language_accepts at item e
+
+-- Some of the items are done and counted, and those ahead are left.
+pub record IsDoneTo (items ahead : List Item) (number : ℕ) (tally : Tally) (session : SessionSeen) (heap : HeapSeen) : Type 0 where
+  pub done : List Item
+  pub items_are : items ≡ done ++ ahead
+  pub number_is : number ≡ length done
+  pub counts : CountsItems done tally session heap
+
+-- none is done
+pub done_first : (items ahead : List Item) (tally : Tally) (session : SessionSeen) (heap : HeapSeen) → ahead ≡ items → tally ≡ tally_of []
+    → session ≡ record { settings = defaults; names = []; types = Some [] } → heap ≡ closed_heap → IsDoneTo items ahead 0 tally session heap
+done_first items ahead tally session heap same none first closed = record {
+  done = [];
+  items_are = sym same;
+  number_is = refl;
+  counts = record {
+    groups = [];
+    at = at_start;
+    runs = (refl, refl);
+    counted = none;
+    stands = subst (λ (h : HeapSeen). StandsAt session h at_start) (sym closed) (stands_first session first);
+  };
+}
+
+-- fewer items are done than there are
+some_ahead : (items ahead rest : List Item) (item : Item) (number : ℕ) (tally : Tally) (session : SessionSeen) (heap : HeapSeen)
+    → IsDoneTo items ahead number tally session heap → ahead ≡ item ∷ rest → number + 1 ≤ length items
+some_ahead items ahead rest item number tally session heap so is =
+    let all : length items ≡ length so.done + length (item ∷ rest) =
+    ap length (so.items_are ∙ ap (λ (l : List Item). so.done ++ l) is) ∙ length-append so.done (item ∷ rest) in
+    omega (arith, all, so.number_is)
+
+-- one more is done
+pub done_more : (items ahead rest : List Item) (item : Item) (number : ℕ) (tally new : Tally) (session session_after : SessionSeen) (heap heap_after : HeapSeen)
+    → (so : IsDoneTo items ahead number tally session heap) → ahead ≡ item ∷ rest
+    → CountsItem so.counts.at item tally new session_after heap_after → IsDoneTo items rest (number + 1) new session_after heap_after
+done_more items ahead rest item number tally new session session_after heap heap_after so is more = record {
+  done = so.done ++ item ∷ [];
+  items_are = so.items_are ∙ (ap (λ (l : List Item). so.done ++ l) is ∙ sym (append_assoc so.done (item ∷ []) rest));
+  number_is = ap (λ n. n + 1) so.number_is ∙ sym (length-append so.done (item ∷ []));
+  counts = record {
+    groups = so.counts.groups ++ more.groups;
+    at = more.after;
+    runs = runs_more at_start so.counts.at more.after so.done item so.counts.groups more.groups so.counts.runs more.accepted more.does;
+    counted = more.counted ∙ (ap (λ (t : Tally). tally_plus t (length more.groups) (group_lines more.groups)) so.counts.counted
+        ∙ sym (tally_behind so.counts.groups more.groups));
+    stands = more.stands;
+  };
+}
+
+-- all are done
+pub done_all : (items ahead : List Item) (number : ℕ) (tally : Tally) (session : SessionSeen) (heap : HeapSeen)
+    → IsDoneTo items ahead number tally session heap → ahead ≡ [] → CountsItems items tally session heap
+done_all items ahead number tally session heap so none =
+    subst (λ (l : List Item). CountsItems l tally session heap)
+    (sym (so.items_are ∙ (ap (λ (l : List Item). so.done ++ l) none ∙ append-nil so.done))) so.counts
+
+-- the next one is not done
+pub stops : (items ahead rest : List Item) (item : Item) (number : ℕ) (tally : Tally) (session session_after : SessionSeen) (heap heap_after : HeapSeen) (end : BenchEnd)
+    → (so : IsDoneTo items ahead number tally session heap) → ahead ≡ item ∷ rest
+    → EndsItem so.counts.at (number + 1) item tally session_after heap_after (Err end) → HasNoSummary items heap_after end
+stops items ahead rest item number tally session session_after heap heap_after (Malformed k reason) so is ends = record {
+  front = so.done;
+  item = item;
+  behind = rest;
+  items_are = so.items_are ∙ ap (λ (l : List Item). so.done ++ l) is;
+  number = ends.0 ∙ ap (λ n. n + 1) so.number_is;
+  groups = so.counts.groups;
+  mid = so.counts.at;
+  runs = so.counts.runs;
+  refused = ends.1;
+  stands = heap_stands session_after heap_after so.counts.at ends.2;
+}
+stops items ahead rest item number tally session session_after heap heap_after (HeapLimit k counted request limit) so is ends = record {
+  front = so.done;
+  item = item;
+  behind = rest;
+  items_are = so.items_are ∙ ap (λ (l : List Item). so.done ++ l) is;
+  number = ends.0 ∙ ap (λ n. n + 1) so.number_is;
+  groups = so.counts.groups;
+  mid = so.counts.at;
+  runs = so.counts.runs;
+  accepted = ends.1.accepted;
+  more = ends.1.groups;
+  after = ends.1.after;
+  exceeds = ends.1.exceeds;
+  stands = heap_stands session_after heap_after ends.1.after ends.1.stands;
+}
+stops items ahead rest item number tally session session_after heap heap_after OutOfMemory so is ends = tt
+stops items ahead rest item number tally session session_after heap heap_after WriteFault so is ends = absurd ends
+
+lines_are : (item : Item) (tally new : Tally) (session : SessionSeen) (heap : HeapSeen) (at : Progress) (before lines : List Line) → before ≡ []
+    → (does : DoesItem session heap at item before lines) → new ≡ tally_plus tally (commands_of item) lines
+    → new ≡ tally_plus tally (length does.groups) (group_lines does.groups)
+lines_are item tally new session heap at before lines none does is =
+    is ∙ (ap (λ (l : List Line). tally_plus tally (commands_of item) l) (does.lines ∙ ap (λ (l : List Line). l ++ group_lines does.groups) none)
+    ∙ ap (λ n. tally_plus tally n (group_lines does.groups)) (sym (groups_of_item at does.next item does.groups does.does)))
+
+-- an item that a session did, with its lines counted
+pub counts_item : (item : Item) (tally new : Tally) (session : SessionSeen) (heap : HeapSeen) (at : Progress) (before lines : List Line) → before ≡ []
+    → DoesItem session heap at item before lines → new ≡ tally_plus tally (commands_of item) lines → CountsItem at item tally new session heap
+counts_item item tally new session heap at before lines none does is = record {
+  groups = does.groups;
+  after = does.next;
+  accepted = accepts at item does.accepted;
+  does = does.does;
+  counted = lines_are item tally new session heap at before lines none does is;
+  stands = does.stands;
+}
+
+-- an item that the limit refused
+pub limits_item : (item : Item) (session : SessionSeen) (heap : HeapSeen) (at : Progress) (counted request limit a b c : ℕ) (before lines : List Line)
+    → a ≡ counted → b ≡ request → c ≡ limit → ExceedsItem session heap at item counted request limit before lines → LimitsItem at item a b c session heap
+limits_item item session heap at counted request limit a b c before lines is_a is_b is_c e = rw (is_a, is_b, is_c) (record {
+  groups = e.groups;
+  after = e.next;
+  accepted = accepts at item e.accepted;
+  exceeds = e.exceeds;
+  stands = e.stands;
+})
+
+-- the number of the next item
+pub number_fits : (start n : ℕ) (ahead rest : List Item) (item : Item) (number : ℕ) (tally : Tally) (session : SessionSeen) (heap : HeapSeen)
+    → IsDoneTo (generated_items start n) ahead number tally session heap → ahead ≡ item ∷ rest → n ≤ 100000 → number + 1 ≤ 100021
+number_fits start n ahead rest item number tally session heap so is few =
+    omega (arith, some_ahead (generated_items start n) ahead rest item number tally session heap so is, length_generated start n, few)
