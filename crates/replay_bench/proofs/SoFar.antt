@@ -10,20 +10,15 @@ use Rattle.store_model.specs.Transcript.{group_lines}
 use Rattle.heap_core.specs.Heap.{HeapSeen, closed_heap}
 use Rattle.session_core.specs.Seen.{SessionSeen}
 use Rattle.session_core.specs.Standing.{StandsAt, DoesItem, ExceedsItem}
-use Rattle.session_core.proofs.Passing.{language_accepts}
 use Rattle.session_core.proofs.Places.{stands_first, heap_stands}
 use Rattle.replay_bench.specs.declared.tally.Tally.{Tally}
 use Rattle.replay_bench.specs.declared.top.BenchEnd.{BenchEnd}
 use Rattle.replay_bench.specs.declared.top.BenchEnd.TheVariants.{Malformed, HeapLimit, OutOfMemory, WriteFault}
-use Rattle.replay_bench.specs.Bench.{refused_for, HasNoSummary}
+use Rattle.replay_bench.specs.Bench.{HasNoSummary}
 use Rattle.replay_bench.specs.Items.{CountsItem, LimitsItem, CountsItems, EndsItem}
 use Rattle.replay_bench.specs.Summary.{tally_of, tally_plus, commands_of}
 use Rattle.replay_bench.proofs.Counting.{tally_behind, groups_of_item}
 use Rattle.replay_bench.proofs.RunLaws.{runs_more, length_generated}
-
--- what the program does not refuse, the store does not
-accepts : (at : Progress) (item : Item) → refused_for at item ≡ None → refusal at item ≡ None
-accepts at item e = language_accepts at item e
 
 -- Some of the items are done and counted, and those ahead are left.
 pub record IsDoneTo (items ahead : List Item) (number : ℕ) (tally : Tally) (session : SessionSeen) (heap : HeapSeen) : Type 0 where
@@ -128,7 +123,7 @@ pub counts_item : (item : Item) (tally new : Tally) (session : SessionSeen) (hea
 counts_item item tally new session heap at before lines none does is = record {
   groups = does.groups;
   after = does.next;
-  accepted = accepts at item does.accepted;
+  accepted = does.accepted;
   does = does.does;
   counted = lines_are item tally new session heap at before lines none does is;
   stands = does.stands;
@@ -140,7 +135,7 @@ pub limits_item : (item : Item) (session : SessionSeen) (heap : HeapSeen) (at : 
 limits_item item session heap at counted request limit a b c before lines is_a is_b is_c e = rw (is_a, is_b, is_c) (record {
   groups = e.groups;
   after = e.next;
-  accepted = accepts at item e.accepted;
+  accepted = e.accepted;
   exceeds = e.exceeds;
   stands = e.stands;
 })

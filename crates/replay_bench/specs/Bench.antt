@@ -13,10 +13,6 @@ use Rattle.replay_bench.specs.declared.top.BenchEnd.TheVariants.{Malformed, Heap
 use Rattle.replay_bench.specs.Summary.{summary_text}
 use Rattle.script_convert.specs.Written.{WritesPart}
 
--- why the program refuses an item where a script stands, if it does
-abbrev pub refused_for : Progress → Item → Option Reason
-refused_for at item = refusal at item
-
 -- The items are done with a transcript that the store allows, something holds of its summary, and the heap stands for its store.
 pub record Summarizes (items : List Item) (heap : HeapSeen) (Says : List ℕ → Type 0) : Type 0 where
   pub groups : List Group
@@ -35,7 +31,7 @@ pub record StopsAtItem (items : List Item) (heap : HeapSeen) (k : ℕ) (reason :
   pub groups : List Group
   pub mid : Progress
   pub runs : Runs at_start front groups mid
-  pub refused : refused_for mid item ≡ Some reason
+  pub refused : refusal mid item ≡ Some reason
   pub stands : HeapStandsAt heap mid
 
 -- The items are done to item k, counted from 1, whose birth the limit refuses with these numbers, and its collections are done.

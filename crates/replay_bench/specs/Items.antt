@@ -10,7 +10,7 @@ use Rattle.session_core.specs.Standing.{StandsAt}
 use Rattle.replay_bench.specs.declared.tally.Tally.{Tally}
 use Rattle.replay_bench.specs.declared.top.BenchEnd.{BenchEnd}
 use Rattle.replay_bench.specs.declared.top.BenchEnd.TheVariants.{Malformed, HeapLimit, OutOfMemory, WriteFault}
-use Rattle.replay_bench.specs.Bench.{refused_for, HasNoSummary}
+use Rattle.replay_bench.specs.Bench.{HasNoSummary}
 use Rattle.replay_bench.specs.Summary.{tally_of, tally_plus}
 
 -- From `at`, the item was done, and its groups are counted.
@@ -34,7 +34,7 @@ pub record LimitsItem (at : Progress) (item : Item) (counted request limit : ℕ
 abbrev pub EndsItem : Progress → ℕ → Item → Tally → SessionSeen → HeapSeen → Result Tally BenchEnd → Type 0
 EndsItem at k item tally session heap (Ok new) = CountsItem at item tally new session heap
 EndsItem at k item tally session heap (Err (Malformed number reason)) =
-    (number ≡ k) × (refused_for at item ≡ Some reason) × StandsAt session heap at
+    (number ≡ k) × (refusal at item ≡ Some reason) × StandsAt session heap at
 EndsItem at k item tally session heap (Err (HeapLimit number counted request limit)) =
     (number ≡ k) × LimitsItem at item counted request limit session heap
 EndsItem at k item tally session heap (Err OutOfMemory) = Unit {0}
