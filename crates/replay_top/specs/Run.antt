@@ -6,6 +6,8 @@ use Rattle.script_convert.specs.declared.end.ConvertEnd.{ConvertEnd}
 use Rattle.script_convert.specs.declared.end.ConvertEnd.TheVariants as convert
 use Rattle.script_convert.specs.declared.reader.UnitEnd.{UnitEnd}
 use Rattle.script_convert.specs.declared.reader.UnitEnd.TheVariants as unit
+use Rattle.replay_bench.specs.declared.top.BenchEnd.{BenchEnd}
+use Rattle.replay_bench.specs.declared.top.BenchEnd.TheVariants as bench
 use Rattle.replay_top.specs.declared.line.Stop.{Stop}
 use Rattle.replay_top.specs.declared.line.Stop.TheVariants.{Malformed, HeapLimit, OutOfMemory, ReadFault, WriteFault}
 use Rattle.store_model.specs.EndOfRun.{Stands, StopsAt, StopsAtLimit, StopsReading, StopsWriting, StopsSomewhere}
@@ -23,6 +25,13 @@ stop_of_convert (convert.Malformed k reason) = Malformed k reason
 stop_of_convert convert.ReadFault = ReadFault
 stop_of_convert convert.WriteFault = WriteFault
 stop_of_convert convert.OutOfMemory = OutOfMemory
+
+-- how a run stops where there is no summary of a generated script
+abbrev pub stop_of_bench : BenchEnd → Stop
+stop_of_bench (bench.Malformed k reason) = Malformed k reason
+stop_of_bench (bench.HeapLimit k counted request limit) = HeapLimit k counted request limit
+stop_of_bench bench.OutOfMemory = OutOfMemory
+stop_of_bench bench.WriteFault = WriteFault
 
 -- What stands by the answer, where the bytes of the file are told. `begun` and `begun_after` count the files that were begun, and
 -- `rest` is what is left of the file.

@@ -1,5 +1,5 @@
 -- The whole program: its words, its statuses and what it tells on errors.
-use Rattle.std.specs.Prelude.{◌≡◌, ℕ, List, [], ◌∷◌, Option, Some, None, Result, Ok, Err, if◌then◌else◌, bytes_eq, codes, ◌⊎◌}
+use Rattle.std.specs.Prelude.{◌≡◌, ℕ, List, [], ◌∷◌, Option, Some, None, Result, Ok, Err, if◌then◌else◌, nat_lt, bytes_eq, codes, ◌⊎◌}
 use Rattle.std.specs.Io.KnownBytes.{Appends}
 use Rattle.heap_io.specs.Causes.{Rose}
 use Rattle.store_model.specs.EndOfRun.{IsNeverRefused}
@@ -12,7 +12,11 @@ use Rattle.replay_top.specs.declared.top.Status.{Status}
 use Rattle.replay_top.specs.declared.top.Status.TheVariants as statuses
 use Rattle.heap_core.specs.Heap.{HeapSeen}
 use Rattle.script_convert.specs.Written.{WritesPart}
-use Rattle.replay_top.specs.Run.{EndsRun, stop_of_convert}
+use Rattle.text_model.specs.declared.item.Item.{Item}
+use Rattle.text_model.specs.Numbers.{number_of}
+use Rattle.replay_bench.specs.declared.top.BenchEnd.{BenchEnd}
+use Rattle.replay_bench.specs.Bench.{EndsBench}
+use Rattle.replay_top.specs.Run.{EndsRun, stop_of_convert, stop_of_bench}
 
 -- the name of the file, where the words are a command and that
 abbrev pub named : List ℕ → List (List ℕ) → Option (List ℕ)
@@ -26,6 +30,17 @@ replayed words = named (codes "replay") words
 -- the name of the file, where the words are `convert FILE`
 abbrev pub converted : List (List ℕ) → Option (List ℕ)
 converted words = named (codes "convert") words
+
+-- two numbers, of which the second is at most 100,000
+abbrev pub with_count : Option ℕ → Option ℕ → Option (ℕ × ℕ)
+with_count None count = None
+with_count (Some start) None = None
+with_count (Some start) (Some count) = if nat_lt 100000 count then None else Some (start, count)
+
+-- the start and the count of a generated script, where the words are `bench START COUNT`
+abbrev pub benched : List (List ℕ) → Option (ℕ × ℕ)
+benched (word ∷ start ∷ count ∷ []) = if bytes_eq word (codes "bench") then with_count (number_of start) (number_of count) else None
+benched words = None
 
 -- of other words than the program takes
 abbrev pub usage_text : List ℕ
@@ -77,6 +92,18 @@ pub record RunsConvert (script : Option (List ℕ)) (begun begun_after : Option 
   pub status_is : status ≡ answer_status (answer_of_convert answer)
   pub converts : Converts script begun begun_after rest before written answer
   pub tells : Tells before_told told faults_before faults (answer_text (answer_of_convert answer))
+
+-- what an answer for a generated script is to a run
+abbrev pub answer_of_bench : Result (Unit {0}) BenchEnd → Result (Unit {0}) Stop
+answer_of_bench (Ok done) = Ok done
+answer_of_bench (Err end) = Err (stop_of_bench end)
+
+-- What stands after `bench START COUNT`, by the status: one answer for the generated script has this status and this text.
+pub record RunsBench (items : List Item) (before written before_told told : Option (List ℕ)) (faults_before faults : ℕ) (heap : HeapSeen) (status : Status) : Type 0 where
+  pub answer : Result (Unit {0}) BenchEnd
+  pub status_is : status ≡ answer_status (answer_of_bench answer)
+  pub ends : EndsBench items before written heap answer
+  pub tells : Tells before_told told faults_before faults (answer_text (answer_of_bench answer))
 
 -- Where no unit is refused, nor by the limit, and no count of faults rose, the run comes to its end, or memory runs out.
 abbrev pub IsComplete : Option (List ℕ) → Type 0 → Type 0 → Status → Type 0

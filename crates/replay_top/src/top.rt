@@ -3,9 +3,11 @@ ghost use Rattle.std.specs.Prelude.{◌≡◌, None, IfSome, IsTrue, option_copi
 ghost use Rattle.std.specs.Option.{ForSome};
 ghost use Rattle.std.specs.Io.KnownBytes.{Keeps};
 ghost use Rattle.heap_io.specs.Causes.{Rose};
+ghost use Rattle.text_model.specs.Generated.{generated_items};
 ghost use Rattle.heap_core.specs.Heap.{closed_heap};
-ghost use Rattle.replay_top.specs.Top.{named, replayed, converted, usage_text, stop_status, Tells, Replays, RunsConvert, IsComplete};
+ghost use Rattle.replay_top.specs.Top.{named, replayed, converted, benched, usage_text, stop_status, Tells, Replays, RunsConvert, RunsBench, IsComplete};
 
+use crate::bench::{generated, run_bench};
 use crate::line::{Stop, stop_of_convert};
 use crate::script::replay;
 use crate::tell::{tell, tell_stop};
@@ -32,7 +34,7 @@ pub enum Status {
 
 /// Runs the program for its words. With `replay FILE` it does the units of the file, a script in either form, one after
 /// another over a closed heap, and writes the transcript to `out`; with `convert FILE` it writes the script in its other form
-/// to `out`. On a stop before the script's end it writes why it stopped to `err`.
+/// to `out`; with `bench START COUNT` it does the generated script with so many drawn commands, and writes a summary to `out`. On a stop before the script's end it writes why it stopped to `err`.
 pub fn run<F: Files, K: Sink, E: Sink>(
     alloc: Global,
     words: &[String],
@@ -56,8 +58,14 @@ pub fn run<F: Files, K: Sink, E: Sink>(
         (E.written err.old) (E.written err.new) (E.faults err.old) (E.faults err.new) result
         × (heap.new ≡ closed_heap)) }
 
+    // What stands when a generated script was done for its summary, by the status.
+    ensures benches { IfSome (benched (map string_bytes words.now)) (λ asked.
+        RunsBench (generated_items asked.0 asked.1) (K.written out.old) (K.written out.new)
+        (E.written err.old) (E.written err.new) (E.faults err.old) (E.faults err.new) heap.new result) }
+
     // Other words change nothing, but that the usage is told.
-    ensures usage { replayed (map string_bytes words.now) ≡ None → converted (map string_bytes words.now) ≡ None → (result ≡ Status.Usage)
+    ensures usage { replayed (map string_bytes words.now) ≡ None → converted (map string_bytes words.now) ≡ None
+        → benched (map string_bytes words.now) ≡ None → (result ≡ Status.Usage)
         × Keeps (K.written out.old) (K.written out.new) × (heap.new ≡ closed_heap)
         × Tells (E.written err.old) (E.written err.new) (E.faults err.old) (E.faults err.new) usage_text }
 
@@ -74,6 +82,9 @@ pub fn run<F: Files, K: Sink, E: Sink>(
     }
     if let Some(name) = named("convert", words) {
         return run_convert(alloc, name, files, out, err);
+    }
+    if let Some((start, count)) = generated(words) {
+        return run_bench(alloc, start, count, out, err, heap);
     }
     tell(err, b"usage: replay FILE, or bench START COUNT, or convert FILE\n");
     Status::Usage
@@ -142,7 +153,7 @@ fn named<'a>(command: &str, words: &'a [String]) -> Option<&'a [u8]>
     Some(words[1].as_bytes())
 }
 
-fn stop_status(stop: Stop) -> Status
+pub(crate) fn stop_status(stop: Stop) -> Status
     ensures { result ≡ stop_status stop }
 {
     match stop {
