@@ -75,7 +75,10 @@ pub fn run<F: Files, K: Sink, E: Sink>(
     if let Some(name) = named("convert", words) {
         return run_convert(alloc, name, files, out, err);
     }
-    tell(err, b"usage: replay FILE, or bench START COUNT, or convert FILE\n");
+    tell(
+        err,
+        b"usage: replay FILE, or bench START COUNT, or convert FILE\n",
+    );
     Status::Usage
 }
 
