@@ -18,6 +18,7 @@ mod words;
 pub use bytes::Bytes;
 pub use commands::print_command;
 pub use items::print_item;
+pub use numbers::parse_number;
 pub use parse::parse_line;
 pub use ranges::{item_number, own_number, slot_number, type_number};
 pub use reader::{LineReader, ReadEnd};
