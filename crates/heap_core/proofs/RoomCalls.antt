@@ -10,7 +10,7 @@ use Rattle.store_model.specs.Collections.{is_scanning}
 use Rattle.heap_parts.specs.Parts.{HeapParts}
 use Rattle.heap_parts.specs.Collects.{CollectsMinor}
 use Rattle.heap_phases.specs.Steps.{CanStep}
-use Rattle.minor_collect.specs.Collecting.{CanCollect}
+use Rattle.minor_collect.specs.Minor.{CanCollect}
 use Rattle.minor_collect.proofs.StartedCollects.{stands_whole}
 use Rattle.collect_laws.specs.Events.{EventOf, Undergoes, Doing}
 use Rattle.heap_core.specs.Commands.{AreStanding}

@@ -34,7 +34,8 @@ pub enum Status {
 
 /// Runs the program for its words. With `replay FILE` it does the units of the file, a script in either form, one after
 /// another over a closed heap, and writes the transcript to `out`; with `convert FILE` it writes the script in its other form
-/// to `out`; with `bench START COUNT` it does the generated script with so many drawn commands, and writes a summary to `out`. On a stop before the script's end it writes why it stopped to `err`.
+/// to `out`; with `bench START COUNT` it does the generated script with so many drawn commands, and writes its summary to
+/// `out`. On a stop before the script's end it writes why it stopped to `err`.
 pub fn run<F: Files, K: Sink, E: Sink>(
     alloc: Global,
     words: &[String],
@@ -86,7 +87,10 @@ pub fn run<F: Files, K: Sink, E: Sink>(
     if let Some((start, count)) = generated(words) {
         return run_bench(alloc, start, count, out, err, heap);
     }
-    tell(err, b"usage: replay FILE, or bench START COUNT, or convert FILE\n");
+    tell(
+        err,
+        b"usage: replay FILE, or bench START COUNT, or convert FILE\n",
+    );
     Status::Usage
 }
 

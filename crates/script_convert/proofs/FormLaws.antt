@@ -159,10 +159,10 @@ cut_by binary script rest_after before written after units behind items item Rea
 cut_by binary script rest_after before written after units behind items item WriteFault are appended leads writes =
     let P : List ℕ → Type 0 = WritesPart before after in
     let same : items_pieces binary (items_said (units_of script)) ≡ items_pieces binary items ++ (item_piece binary item ++ items_pieces binary (items_said behind)) =
-        ap (λ l. items_pieces binary (items_said l)) leads
-        ∙ ap (items_pieces binary) (items_front (units ++ Ok (Some item) ∷ []) behind (items ++ item ∷ []) (said_push units items item are)
-        ∙ append_assoc items (item ∷ []) (items_said behind))
-        ∙ pieces-append binary items (item ∷ items_said behind) in
+    ap (λ l. items_pieces binary (items_said l)) leads
+    ∙ ap (items_pieces binary) (items_front (units ++ Ok (Some item) ∷ []) behind (items ++ item ∷ []) (said_push units items item are)
+    ∙ append_assoc items (item ∷ []) (items_said behind))
+    ∙ pieces-append binary items (item ∷ items_said behind) in
     subst P (sym same) (part_behind before written after (items_pieces binary items) (item_piece binary item ++ items_pieces binary (items_said behind)) appended
     (part_within written after (item_piece binary item) (items_pieces binary (items_said behind)) writes))
 cut_by binary script rest_after before written after units behind items item OutOfMemory are appended leads writes =

@@ -267,10 +267,9 @@ leads_some script (Some xs) lines leads = (lines_of xs, leads)
 pub lines_lead : (script : List ℕ) (rest : Option (List ℕ)) (reader : ReaderState) (units : List Said) → HandedLines (Some script) rest reader units
     → (behind : List Said) × (units_of script ≡ units ++ behind)
 lines_lead script rest reader units handed =
-    let next = leads_some script (ahead reader rest) handed.lines handed.leads in
-    (
+    let next = leads_some script (ahead reader rest) handed.lines handed.leads in (
       map says_item (readings (1 + length handed.lines) next.0),
       text_units script handed.text ∙ ap (λ (l : List (List ℕ)). map says_item (readings 1 l)) next.1 ∙ ap (map says_item) (readings-append 1 handed.lines next.0)
-      ∙ map-append says_item (readings 1 handed.lines) (readings (1 + length handed.lines) next.0)
-      ∙ ap (λ l. l ++ map says_item (readings (1 + length handed.lines) next.0)) (sym handed.says),
+          ∙ map-append says_item (readings 1 handed.lines) (readings (1 + length handed.lines) next.0)
+          ∙ ap (λ l. l ++ map says_item (readings (1 + length handed.lines) next.0)) (sym handed.says),
     )

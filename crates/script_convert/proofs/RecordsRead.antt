@@ -68,7 +68,7 @@ said_front (item ∷ items) n k rest have few =
     let here : k ≤ 16000000 = omega (arith, few) in
     ap (records_said (suc (beyond items n)) k) (append_assoc (item_record item) (items_records items) rest)
     ∙ said_step (beyond items n) k (item_record item ++ (items_records items ++ rest)) (items_records items ++ rest) item
-        (unit_again k item (items_records items ++ rest) here have.0)
+    (unit_again k item (items_records items ++ rest) here have.0)
     ∙ ap (λ more. Ok (Some item) ∷ more) (said_front items n (k + 1) rest have.1 (omega (arith, few))
     ∙ ap (λ j. map as_said items ++ records_said n j rest) (let e : (k + 1) + length items ≡ k + length (item ∷ items) = omega arith in e))
 
@@ -79,7 +79,7 @@ whole_front (item ∷ items) n k rest have few =
     let here : k ≤ 16000000 = omega (arith, few) in
     ap (whole_records (suc (beyond items n)) k) (append_assoc (item_record item) (items_records items) rest)
     ∙ whole_step (beyond items n) k (item_record item ++ (items_records items ++ rest)) (items_records items ++ rest) item
-        (unit_again k item (items_records items ++ rest) here have.0)
+    (unit_again k item (items_records items ++ rest) here have.0)
     ∙ ap (λ more. Ok (Some item) ∷ more) (whole_front items n (k + 1) rest have.1 (omega (arith, few))
     ∙ ap (λ j. map as_said items ++ whole_records n j rest) (let e : (k + 1) + length items ≡ k + length (item ∷ items) = omega arith in e))
 
@@ -91,24 +91,27 @@ some_bytes (item ∷ items) = omega (arith, length-append (item_record item) (it
 -- Behind these records the bytes leave room for one unit more.
 room : (items : List Item) (rest : List ℕ) → (n : ℕ) × (length ((binary_mark ++ items_records items) ++ rest) ≡ beyond items (suc n))
 room items rest =
-    let long = some_bytes items in
-    (
+    let long = some_bytes items in (
       length ((binary_mark ++ items_records items) ++ rest) - length items - 1,
-      omega (arith, long, length-append (binary_mark ++ items_records items) rest, length-append binary_mark (items_records items),
-          beyond_is items (suc (length ((binary_mark ++ items_records items) ++ rest) - length items - 1))),
+      omega (
+        arith,
+        long,
+        length-append (binary_mark ++ items_records items) rest,
+        length-append binary_mark (items_records items),
+        beyond_is items (suc (length ((binary_mark ++ items_records items) ++ rest) - length items - 1)),
+      ),
     )
 
 -- the units of a script that begins with these records
 units_behind : (script rest : List ℕ) (items : List Item) → script ≡ (binary_mark ++ items_records items) ++ rest → HaveLines items
     → length items ≤ 16000000 → (n : ℕ) × (units_of script ≡ map as_said items ++ records_said (suc n) (length items + 1) rest)
 units_behind script rest items is have few =
-    let n = room items rest in
-    (
+    let n = room items rest in (
       n.0,
       ap units_of is
-      ∙ ap (λ m. records_said m 1 (items_records items ++ rest)) n.1
-      ∙ said_front items (suc n.0) 1 rest have (omega (arith, few))
-      ∙ ap (λ k. map as_said items ++ records_said (suc n.0) k rest) (let e : 1 + length items ≡ length items + 1 = omega arith in e),
+          ∙ ap (λ m. records_said m 1 (items_records items ++ rest)) n.1
+          ∙ said_front items (suc n.0) 1 rest have (omega (arith, few))
+          ∙ ap (λ k. map as_said items ++ records_said (suc n.0) k rest) (let e : 1 + length items ≡ length items + 1 = omega arith in e),
     )
 
 -- one record more
@@ -131,7 +134,7 @@ pub record_on : (script rest rest_after : Option (List ℕ)) (reader new : BinSt
 record_on script rest rest_after reader new units item handed hands =
     let P : List ℕ → Type 0 = Consumes script (ahead new rest_after) in
     let counted : new.count ≡ length (handed.items ++ item ∷ []) =
-        hands.count ∙ ap (λ n. n + 1) handed.count ∙ sym (length-append handed.items (item ∷ [])) in
+    hands.count ∙ ap (λ n. n + 1) handed.count ∙ sym (length-append handed.items (item ∷ [])) in
     record {
       items = handed.items ++ item ∷ [];
       says = ap (λ l. l ++ Ok (Some item) ∷ []) handed.says ∙ said-push handed.items item;

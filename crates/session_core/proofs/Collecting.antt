@@ -35,10 +35,13 @@ pub birth_ends : (old new : HeapSeen) (command same : Command) (before after : L
     → old.is_spent ≡ false → AnswersBirth same old new before after result → EndsCommand command old new before after result
 birth_ends old new command same before after (Ok done) is makes alive b = subst (λ (k : Command). Performs old new k before after) (sym is) b
 birth_ends old new command same before after (Err Spent) is makes alive b = let no : ⊥ = (let e = b.0 in cc) in no
-birth_ends old new command same before after (Err OutOfMemory) is makes alive b = (b.1, elim b.2 [
-  | inl spent ↦ inl (spent_is new spent)
-  | inr leaves ↦ inr (inr (ap makes_blocks is ∙ makes, leaves))
-])
+birth_ends old new command same before after (Err OutOfMemory) is makes alive b = (
+  b.1,
+  elim b.2 [
+    | inl spent ↦ inl (spent_is new spent)
+    | inr leaves ↦ inr (inr (ap makes_blocks is ∙ makes, leaves))
+  ],
+)
 birth_ends old new command same before after (Err (HeapLimit counted request limit)) is makes alive b =
     subst (λ (k : Command). EndsCommand k old new before after (Err (HeapLimit counted request limit))) (sym is) b.1
 
@@ -117,11 +120,14 @@ module _ (session mid : SessionSeen) (heap started new : HeapSeen) (at : Progres
       → Answers at (CommandItem command) mid new before after (Err (fault_told fault))
   unfolding ItemExceeds
   answers_fault before after Spent accepted ends = absurd ends
-  answers_fault before after OutOfMemory accepted ends = (ends.0, elim ends.1 [
-    | inl spent ↦ inl spent
-    | inr (inl keeps) ↦ inr (leaves_kept keeps)
-    | inr (inr led) ↦ inr (leaves_led led.0 led.1)
-  ])
+  answers_fault before after OutOfMemory accepted ends = (
+    ends.0,
+    elim ends.1 [
+      | inl spent ↦ inl spent
+      | inr (inl keeps) ↦ inr (leaves_kept keeps)
+      | inr (inr led) ↦ inr (leaves_led led.0 led.1)
+    ],
+  )
   answers_fault before after (HeapLimit counted request limit) accepted ends =
       let step = ends.exceeds at.store (b.stores at.store stands.store) in
       let refused : IsCommandRefused command counted request limit b.has_heap.parts.setup at.store ends.lines step.0 =

@@ -14,8 +14,7 @@ returns-in-Ok-clause-reads g c = λ script units handed.
 
 pub returns-in-Ok-clause-goes_on : goal.returns-in-Ok-clause-goes_on
 returns-in-Ok-clause-goes_on g c =
-    let reads = rw c.in-Ok-Some.field-0-is at c.in-Ok-Some.ensures.reads in
-    (
+    let reads = rw c.in-Ok-Some.field-0-is at c.in-Ok-Some.ensures.reads in (
       is_said c.in-Ok.item (take c.in-Ok-Some.length c.next.new.line) ((c.parse_line.ensures.grammar c.in-Ok.item).0 c.in-Ok.is),
       (reads.1.count ∙ ap (λ n. n + 1) c.requires.may.0, c.in-Ok-Some.ensures.in_step),
       omega (arith, reads.1.count, reads.1.number, c.requires.may.0),
