@@ -2,7 +2,7 @@
 use Rattle.std.proofs.Common.{◌≡◌, ℕ, List, [], ◌∷◌, Option, Some, None, true, false, refl, sym, ◌∙◌, inl, inr}
 use Rattle.std.specs.Prelude.{codes, bytes_eq, ◌==◌}
 use Rattle.std.proofs.lemmas.Bool.{cases_Bool, and_parts, eqb-true}
-use Rattle.replay_top.specs.Top.{replayed, converted}
+use Rattle.replay_top.specs.Top.{named, replayed, converted, benched}
 
 not_both : (word : List ℕ) → bytes_eq word (codes "replay") ≡ true → bytes_eq word (codes "convert") ≡ false
 not_both [] is = refl
@@ -21,3 +21,17 @@ one_command (word ∷ file ∷ []) name is =
       | inr other ↦ cc (rw other at is)
     ]
 one_command (word ∷ file ∷ more ∷ words) name is = refl
+
+-- words that ask for a file ask for no generated script
+pub two_words : (command : List ℕ) (words : List (List ℕ)) (name : List ℕ) → Some name ≡ named command words → benched words ≡ None
+two_words command [] name is = refl
+two_words command (word ∷ []) name is = refl
+two_words command (word ∷ file ∷ []) name is = refl
+two_words command (word ∷ file ∷ more ∷ words) name is = absurd (let no : ⊥ = cc in no)
+
+-- and the other way round
+pub three_words : (command : List ℕ) (words : List (List ℕ)) (asked : ℕ × ℕ) → Some asked ≡ benched words → named command words ≡ None
+three_words command [] asked is = refl
+three_words command (word ∷ []) asked is = refl
+three_words command (word ∷ file ∷ []) asked is = absurd (let no : ⊥ = cc in no)
+three_words command (word ∷ file ∷ more ∷ words) asked is = refl
