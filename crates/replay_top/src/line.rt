@@ -56,13 +56,16 @@ pub(crate) fn stop_of_convert(end: ConvertEnd) -> Stop
     }
 }
 
-/// Writes the text of lines. What `text` held is gone.
+/// Writes the text of lines; of none it makes no call. What `text` held may be gone.
 fn write_lines<K: Sink>(lines: &[Line], text: &mut Vec<u8>, out: &mut K) -> Result<(), Stop>
     requires { All IsProper lines.now }
     ensures ends { WritesLines lines.now (K.written out.old) (K.written out.new) result }
     ensures later { K.faults out.old ≤ K.faults out.new }
     ensures fault { IsErrOf result Stop.WriteFault → Rose (K.faults out.old) (K.faults out.new) }
 {
+    if lines.is_empty() {
+        return Ok(());
+    }
     text.clear();
     print_lines(lines, text)?;
     match write_all(out, text) {
