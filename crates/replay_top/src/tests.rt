@@ -78,7 +78,7 @@ fn answered(
     })
 }
 
-const ROWS: [Row; 52] = [
+const ROWS: [Row; 42] = [
     Row {
         script: b"",
         read_fails: &[],
@@ -200,22 +200,6 @@ const ROWS: [Row; 52] = [
         status: Status::Malformed,
     },
     Row {
-        script: b"type 1 fixed 1 0\nnew 0 1\nminor\n",
-        read_fails: &[],
-        write_fails: &[],
-        out: b"new 1 young\nminor 1 0\n",
-        err: b"",
-        status: Status::Done,
-    },
-    Row {
-        script: b"set nursery 16\ntype 1 fixed 2 0\nnew 0 1\nnew 0 1\nnew 0 1\nnew 0 1\nnew 0 1\n",
-        read_fails: &[],
-        write_fails: &[],
-        out: b"new 1 young\nnew 2 young\nnew 3 young\nnew 4 young\nminor 1 3\nnew 5 young\n",
-        err: b"",
-        status: Status::Done,
-    },
-    Row {
         script: b"type 1 fixed 1 0\nnew 0 1\nput 0 0 300\nget 0 0\n",
         read_fails: &[],
         write_fails: &[],
@@ -240,28 +224,12 @@ const ROWS: [Row; 52] = [
         status: Status::Malformed,
     },
     Row {
-        script: b"type 1 fixed 1 0 destructor\nnew 0 1\nstep\n",
-        read_fails: &[],
-        write_fails: &[],
-        out: b"new 1 young\nminor 1 0\nstep scanning marking\n",
-        err: b"",
-        status: Status::Done,
-    },
-    Row {
         script: b"set young 9\ntype 1 ints\nnew 0 1 6\nnew 0 1 7\n",
         read_fails: &[],
         write_fails: &[],
         out: b"new 1 young\nnew 2 old\n",
         err: b"",
         status: Status::Done,
-    },
-    Row {
-        script: b"set limit 64\nset nursery 1000\ntype 1 ints\nnew 0 1 61\nnew 0 1 0\n",
-        read_fails: &[],
-        write_fails: &[],
-        out: b"new 1 young\nminor 1 0\nstep scanning marking\nminor 0 0\nstep marking sweeping\nvisited 1\nminor 0 0\nstep sweeping finalizing\nminor 0 0\nstep finalizing scanning\nthreshold 16384\n",
-        err: b"heap limit: line 5: 64 + 3 > 64\n",
-        status: Status::HeapLimit,
     },
     Row {
         script: b"type 1 ints\nnew 0 1 0\ntype 2 refs\n",
@@ -342,54 +310,6 @@ const ROWS: [Row; 52] = [
         out: b"new 1 young\nnew 2 old\nused 2049 0\n",
         err: b"",
         status: Status::Done,
-    },
-    Row {
-        script: b"set nursery 16\nset young 17\ntype 1 ints\nnew 0 1 13\nused\nnew 1 1 0\n",
-        read_fails: &[],
-        write_fails: &[],
-        out: b"new 1 young\nused 16 0\nminor 1 0\nnew 2 young\n",
-        err: b"",
-        status: Status::Done,
-    },
-    Row {
-        script: b"set nursery 64\nset young 8\ntype 1 ints\nnew 0 1 5\nnew 1 1 53\nused\nnew 2 1 0\n",
-        read_fails: &[],
-        write_fails: &[],
-        out: b"new 1 young\nnew 2 old\nused 64 0\nminor 1 0\nnew 3 young\n",
-        err: b"",
-        status: Status::Done,
-    },
-    Row {
-        script: b"set nursery 64\nset young 8\ntype 1 ints\nnew 0 1 5\nnew 1 1 54\n",
-        read_fails: &[],
-        write_fails: &[],
-        out: b"new 1 young\nminor 1 0\nnew 2 old\n",
-        err: b"",
-        status: Status::Done,
-    },
-    Row {
-        script: b"set limit 64\nset young 8\ntype 1 ints\nnew 0 1 5\nnew 1 1 53\nused\nnew 2 1 0\n",
-        read_fails: &[],
-        write_fails: &[],
-        out: b"new 1 young\nnew 2 old\nused 64 0\nminor 1 0\nstep scanning marking\nminor 0 0\nstep marking sweeping\nvisited 1\nvisited 2\nminor 0 0\nstep sweeping finalizing\nminor 0 0\nstep finalizing scanning\nthreshold 16384\n",
-        err: b"heap limit: line 7: 64 + 3 > 64\n",
-        status: Status::HeapLimit,
-    },
-    Row {
-        script: b"set limit 64\nset young 8\ntype 1 ints\nnew 0 1 5\nnew 1 1 54\n",
-        read_fails: &[],
-        write_fails: &[],
-        out: b"new 1 young\nminor 1 0\nstep scanning marking\nminor 0 0\nstep marking sweeping\nvisited 1\nminor 0 0\nstep sweeping finalizing\nminor 0 0\nstep finalizing scanning\nthreshold 16384\n",
-        err: b"heap limit: line 5: 8 + 57 > 64\n",
-        status: Status::HeapLimit,
-    },
-    Row {
-        script: b"set nursery 1048576\nset limit 16777216\ntype 1 ints\nnew 0 1 16777216\n",
-        read_fails: &[],
-        write_fails: &[],
-        out: b"minor 0 0\nminor 0 0\nstep scanning marking\nminor 0 0\nstep marking sweeping\nminor 0 0\nstep sweeping finalizing\nminor 0 0\nstep finalizing scanning\nthreshold 16384\n",
-        err: b"heap limit: line 4: 0 + 16777219 > 16777216\n",
-        status: Status::HeapLimit,
     },
     Row {
         script: b"set young 8\ntype 1 refs\ntype 2 fixed 1 1\nnew 0 1 7\nnew 1 2\nput 1 0 7\nlink 0 6 1\nlink 1 0 0\ndrop 1\nload 2 0 6\nget 2 0\nload 3 2 0\nsame 3 0\nload 4 3 0\ndrop 0\ndrop 3\nload 5 2 0\nload 6 5 6\nused\n",
@@ -500,9 +420,110 @@ const ROWS: [Row; 52] = [
     },
 ];
 
+/// Scripts that collect.
+const COLLECTING: [Row; 10] = [
+    Row {
+        script: b"type 1 fixed 1 0\nnew 0 1\nminor\n",
+        read_fails: &[],
+        write_fails: &[],
+        out: b"new 1 young\nminor 1 0\n",
+        err: b"",
+        status: Status::Done,
+    },
+    Row {
+        script: b"set nursery 16\ntype 1 fixed 2 0\nnew 0 1\nnew 0 1\nnew 0 1\nnew 0 1\nnew 0 1\n",
+        read_fails: &[],
+        write_fails: &[],
+        out: b"new 1 young\nnew 2 young\nnew 3 young\nnew 4 young\nminor 1 3\nnew 5 young\n",
+        err: b"",
+        status: Status::Done,
+    },
+    Row {
+        script: b"type 1 fixed 1 0 destructor\nnew 0 1\nstep\n",
+        read_fails: &[],
+        write_fails: &[],
+        out: b"new 1 young\nminor 1 0\nstep scanning marking\n",
+        err: b"",
+        status: Status::Done,
+    },
+    Row {
+        script: b"set limit 64\nset nursery 1000\ntype 1 ints\nnew 0 1 61\nnew 0 1 0\n",
+        read_fails: &[],
+        write_fails: &[],
+        out: b"new 1 young\nminor 1 0\nstep scanning marking\nminor 0 0\nstep marking sweeping\nvisited 1\nminor 0 0\nstep sweeping finalizing\nminor 0 0\nstep finalizing scanning\nthreshold 16384\n",
+        err: b"heap limit: line 5: 64 + 3 > 64\n",
+        status: Status::HeapLimit,
+    },
+    Row {
+        script: b"set nursery 16\nset young 17\ntype 1 ints\nnew 0 1 13\nused\nnew 1 1 0\n",
+        read_fails: &[],
+        write_fails: &[],
+        out: b"new 1 young\nused 16 0\nminor 1 0\nnew 2 young\n",
+        err: b"",
+        status: Status::Done,
+    },
+    Row {
+        script: b"set nursery 64\nset young 8\ntype 1 ints\nnew 0 1 5\nnew 1 1 53\nused\nnew 2 1 0\n",
+        read_fails: &[],
+        write_fails: &[],
+        out: b"new 1 young\nnew 2 old\nused 64 0\nminor 1 0\nnew 3 young\n",
+        err: b"",
+        status: Status::Done,
+    },
+    Row {
+        script: b"set nursery 64\nset young 8\ntype 1 ints\nnew 0 1 5\nnew 1 1 54\n",
+        read_fails: &[],
+        write_fails: &[],
+        out: b"new 1 young\nminor 1 0\nnew 2 old\n",
+        err: b"",
+        status: Status::Done,
+    },
+    Row {
+        script: b"set limit 64\nset young 8\ntype 1 ints\nnew 0 1 5\nnew 1 1 53\nused\nnew 2 1 0\n",
+        read_fails: &[],
+        write_fails: &[],
+        out: b"new 1 young\nnew 2 old\nused 64 0\nminor 1 0\nstep scanning marking\nminor 0 0\nstep marking sweeping\nvisited 1\nvisited 2\nminor 0 0\nstep sweeping finalizing\nminor 0 0\nstep finalizing scanning\nthreshold 16384\n",
+        err: b"heap limit: line 7: 64 + 3 > 64\n",
+        status: Status::HeapLimit,
+    },
+    Row {
+        script: b"set limit 64\nset young 8\ntype 1 ints\nnew 0 1 5\nnew 1 1 54\n",
+        read_fails: &[],
+        write_fails: &[],
+        out: b"new 1 young\nminor 1 0\nstep scanning marking\nminor 0 0\nstep marking sweeping\nvisited 1\nminor 0 0\nstep sweeping finalizing\nminor 0 0\nstep finalizing scanning\nthreshold 16384\n",
+        err: b"heap limit: line 5: 8 + 57 > 64\n",
+        status: Status::HeapLimit,
+    },
+    Row {
+        script: b"set nursery 1048576\nset limit 16777216\ntype 1 ints\nnew 0 1 16777216\n",
+        read_fails: &[],
+        write_fails: &[],
+        out: b"minor 0 0\nminor 0 0\nstep scanning marking\nminor 0 0\nstep marking sweeping\nminor 0 0\nstep sweeping finalizing\nminor 0 0\nstep finalizing scanning\nthreshold 16384\n",
+        err: b"heap limit: line 4: 0 + 16777219 > 16777216\n",
+        status: Status::HeapLimit,
+    },
+];
+
 #[test]
 fn scripts_end_as_told(rt: HostRuntime) -> Result<(), Fail> {
     for row in &ROWS {
+        let got = answered(
+            rt.alloc(),
+            &["replay", "s"],
+            row.script,
+            row.read_fails,
+            row.write_fails,
+        )?;
+        assert_eq!(rt; got.out.as_slice(), row.out);
+        assert_eq!(rt; got.err.as_slice(), row.err);
+        assert_eq!(rt; got.status, row.status);
+    }
+    Ok(())
+}
+
+#[test]
+fn collections_are_told(rt: HostRuntime) -> Result<(), Fail> {
+    for row in &COLLECTING {
         let got = answered(
             rt.alloc(),
             &["replay", "s"],
