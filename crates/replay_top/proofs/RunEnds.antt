@@ -4,7 +4,6 @@ use Rattle.std.specs.Prelude.{IfSome}
 use Rattle.std.specs.Io.KnownBytes.{Consumes, IsAtEnd}
 use Rattle.std.proofs.KnownBytes.{Appends-trans, Appends-nil, Appends-kept}
 use Rattle.text_model.specs.declared.item.Item.{Item}
-use Rattle.text_model.specs.declared.item.Reason.{Reason}
 use Rattle.text_model.specs.Units.{Said, units_of}
 use Rattle.store_model.specs.Progress.{at_start}
 use Rattle.store_model.specs.Transcript.{transcript_text}

@@ -1,5 +1,5 @@
 -- Words are one command at most.
-use Rattle.std.proofs.Common.{◌≡◌, ℕ, List, [], ◌∷◌, Option, Some, None, true, false, refl, sym, ◌∙◌, inl, inr}
+use Rattle.std.proofs.Common.{◌≡◌, ℕ, List, [], ◌∷◌, Some, None, true, false, refl, inl, inr}
 use Rattle.std.specs.Prelude.{codes, bytes_eq, ◌==◌}
 use Rattle.std.proofs.lemmas.Bool.{cases_Bool, and_parts, eqb-true}
 use Rattle.replay_top.specs.Top.{named, replayed, converted, benched}

@@ -540,10 +540,11 @@ fn collections_are_told(rt: HostRuntime) -> Result<(), Fail> {
 
 #[test]
 fn other_words_are_told(rt: HostRuntime) -> Result<(), Fail> {
-    let others: [&[&str]; 5] = [
+    let others: [&[&str]; 6] = [
         &[],
         &["replay"],
         &["bench", "7"],
+        &["bench", "7", "100001"],
         &["replay", "s", "s"],
         &["Replay", "s"],
     ];
@@ -561,6 +562,29 @@ fn other_words_are_told(rt: HostRuntime) -> Result<(), Fail> {
     assert_eq!(rt; got.out.as_slice(), b"".as_slice());
     assert_eq!(rt; got.err.as_slice(), b"read fault\n".as_slice());
     assert_eq!(rt; got.status, Status::ReadFault);
+    Ok(())
+}
+
+#[test]
+fn other_forms_are_told(rt: HostRuntime) -> Result<(), Fail> {
+    let got = answered(rt.alloc(), &["bench", "7", "0"], b"", &[], &[])?;
+    assert_eq!(rt;
+        got.out.as_slice(),
+        b"commands 16\nlines 39\nbirths 15\nminors 4\ncycles 1\nused 93 0\n".as_slice()
+    );
+    assert_eq!(rt; got.status, Status::Done);
+    let got = answered(
+        rt.alloc(),
+        &["convert", "s"],
+        b"type 1 fixed 1 0\nnew 0 1\nput 0 0 300\nget 0 0\n",
+        &[],
+        &[],
+    )?;
+    assert_eq!(rt;
+        got.out.as_slice(),
+        b"PGH2\x02\x01\x01\x00\x00\x10\x00\x01\x13\x00\x00\xAC\x02\x14\x00\x00\x00".as_slice()
+    );
+    assert_eq!(rt; got.status, Status::Done);
     Ok(())
 }
 
