@@ -10,7 +10,7 @@ use Rattle.object_model.specs.Newborn.{Request}
 use Rattle.object_model.specs.ObjectWords.{info_or_weak}
 use Rattle.object_model.specs.Setup.{Setup, defaults, young_words, type_at}
 use Rattle.text_model.specs.declared.command.Command.{Command}
-use Rattle.text_model.specs.declared.command.Command.TheVariants.{NewFixed, NewArray, Put, Get, Link, Load, Ident, Pin}
+use Rattle.text_model.specs.declared.command.Command.TheVariants.{NewFixed, NewArray, Put, Get, Link, Load, DropRoot, Ident, Pin, Collect}
 use Rattle.text_model.specs.declared.line.Line.{Line}
 use Rattle.text_model.specs.Range.{is_above}
 use Rattle.store_model.specs.Birth.{with_birth}
@@ -18,7 +18,7 @@ use Rattle.store_model.specs.Births.{Births, BirthWithRoomOf, fixed_request, arr
 use Rattle.store_model.specs.Checks.{first_reason}
 use Rattle.store_model.specs.Collections.{When, needs_block, exceeds_limit}
 use Rattle.store_model.specs.Look.{Look, look}
-use Rattle.store_model.specs.Slots.{held}
+use Rattle.store_model.specs.Slots.{held, put_in_slot}
 use Rattle.store_model.specs.Steps.{Does, put_int, put_ref}
 use Rattle.store_model.specs.Refusal.{command_checks}
 use Rattle.store_model.specs.Store.{Store, empty_store}
@@ -26,7 +26,7 @@ use Rattle.heap_parts.specs.Parts.{HeapParts, word_in, place_in}
 use Rattle.heap_parts.specs.Told.{kind_at}
 use Rattle.heap_core.specs.Heap.{HeapSeen, heap_of, StandsFor, StandsForIf}
 use Rattle.heap_core.specs.Commands.{AreStanding, IsStanding, OfParts, CanDo, IsFresh, Performs, told_by, told_if}
-use Rattle.heap_core.specs.TestStores.{Runs, CanRetype, pair, pairs, newborns, linked, numbered, relinked, tight_settings, tight_types, tight_setup, fixed_info, array_info, one_old, two_old, one_mixed, two_mixed, three_mixed, mixed, joined_mixed, homed_mixed}
+use Rattle.heap_core.specs.TestStores.{Runs, CanRetype, pair, pairs, newborns, linked, numbered, relinked, tight_settings, tight_types, tight_setup, fixed_info, array_info, one_old, two_old, three_old, held_old, left_old, one_mixed, two_mixed, three_mixed, mixed, joined_mixed, homed_mixed}
 use Rattle.heap_core.proofs.LookLaws.{look_told}
 use Rattle.heap_core.proofs.Ready.{kind-some, object_in_slot}
 use Rattle.heap_core.proofs.Runs.{can_do, left_by, runs_started, runs_born}
@@ -231,6 +231,52 @@ pub can_read_old : {old new : HeapSeen} {before after : List Line} → Runs tigh
     → CanDo new (Get 1 16) × CanDo new (Load 2 1 0)
 unfolding is_above
 can_read_old runs p = let after = link_runs 1 0 0 runs p in (can (Get 1 16) after refl, can (Load 2 1 0) after refl)
+
+-- a third is born, and is left when nothing refers to it
+pub can_third_old : {heap : HeapSeen} → Runs tight_setup heap two_old → CanDo heap (NewFixed 2 3)
+unfolding is_above
+can_third_old runs = can (NewFixed 2 3) runs refl
+
+pub third_old : {old new : HeapSeen} {before after : List Line} → Runs tight_setup old two_old → Performs old new (NewFixed 2 3) before after
+    → Runs tight_setup new three_old
+third_old runs p = old_fixed tight_setup (fixed_info 9 1) two_old 2 3 refl (omega arith) refl refl runs p
+
+pub can_hold_old : {heap : HeapSeen} → Runs tight_setup heap three_old → CanDo heap (Link 0 0 1)
+unfolding is_above
+can_hold_old runs = can (Link 0 0 1) runs refl
+
+pub hold_old : {old new : HeapSeen} {before after : List Line} → Runs tight_setup old three_old → Performs old new (Link 0 0 1) before after
+    → Runs tight_setup new held_old
+hold_old runs p = link_runs 0 0 1 runs p
+
+drop_runs : {setup : Setup} {old new : HeapSeen} {store : Store} {before after : List Line} (root : ℕ) → Runs setup old store
+    → Performs old new (DropRoot root) before after → Runs setup new (put_in_slot store root None)
+unfolding Does
+drop_runs {setup = setup} {old = old} {new = new} {store = store} root runs p =
+    let left = left_by setup old new store (DropRoot root) runs p in subst (λ (s : Store). Runs setup new s) left.does.1 left.runs
+
+pub can_drop_second : {heap : HeapSeen} → Runs tight_setup heap held_old → CanDo heap (DropRoot 1)
+unfolding is_above
+can_drop_second runs = can (DropRoot 1) runs refl
+
+pub drop_second : {old new : HeapSeen} {before after : List Line} → Runs tight_setup old held_old → Performs old new (DropRoot 1) before after
+    → Runs tight_setup new (put_in_slot held_old 1 None)
+drop_second runs p = drop_runs 1 runs p
+
+pub can_drop_third : {heap : HeapSeen} → Runs tight_setup heap (put_in_slot held_old 1 None) → CanDo heap (DropRoot 2)
+unfolding is_above
+can_drop_third runs = can (DropRoot 2) runs refl
+
+pub drop_third : {old new : HeapSeen} {before after : List Line} → Runs tight_setup old (put_in_slot held_old 1 None) → Performs old new (DropRoot 2) before after
+    → Runs tight_setup new left_old
+drop_third runs p = drop_runs 2 runs p
+
+pub can_collect_left : {heap : HeapSeen} → Runs tight_setup heap left_old → CanDo heap Collect
+unfolding is_above
+can_collect_left runs = can Collect runs refl
+
+pub collected : {old new : HeapSeen} {before after : List Line} → Runs tight_setup old left_old → Performs old new Collect before after → IsStanding new
+collected {old = old} {new = new} runs p = let left = left_by tight_setup old new left_old Collect runs p in standing left.runs
 
 -- the first of them can be told and become one of type 6
 full_if : {setup : Setup} (spent : Bool) (parts : Option HeapParts) (store : Store) → option_map (λ (p : HeapParts). p.setup) parts ≡ Some setup

@@ -1,5 +1,5 @@
 -- The stores that the heap of a test stands for, one behind each call.
-use Rattle.std.specs.Prelude.{◌≡◌, ℕ, zero, suc, true, false, [], ◌∷◌, Some, IsSome}
+use Rattle.std.specs.Prelude.{◌≡◌, ℕ, zero, suc, true, false, [], ◌∷◌, Some, None, IsSome}
 use Rattle.type_table.specs.declared.info.TypeInfo.{TypeInfo}
 use Rattle.type_table.specs.declared.info.Shape.TheVariants.{Fixed, RefArray}
 use Rattle.type_table.specs.Table.{Table, value_at}
@@ -8,7 +8,7 @@ use Rattle.object_model.specs.ObjectWords.{info_at, info_or_weak}
 use Rattle.object_model.specs.Setup.{Setup, defaults}
 use Rattle.store_model.specs.Birth.{with_birth}
 use Rattle.store_model.specs.Births.{fixed_request, array_request}
-use Rattle.store_model.specs.Slots.{held}
+use Rattle.store_model.specs.Slots.{held, put_in_slot}
 use Rattle.store_model.specs.Steps.{put_int, put_ref}
 use Rattle.store_model.specs.Store.{Store, empty_store}
 use Rattle.heap_parts.specs.Parts.{HeapParts, word_in, place_in}
@@ -69,6 +69,18 @@ one_old = with_birth true (empty_store tight_settings) (fixed_info 9 1) (fixed_r
 
 abbrev pub two_old : Store
 two_old = with_birth true one_old (fixed_info 17 1) (fixed_request 1 4)
+
+-- a third, small and old
+abbrev pub three_old : Store
+three_old = with_birth true two_old (fixed_info 9 1) (fixed_request 2 3)
+
+-- the first refers to the second
+abbrev pub held_old : Store
+held_old = put_ref three_old 0 0 (held three_old.slots 1)
+
+-- and is alone in a slot
+abbrev pub left_old : Store
+left_old = put_in_slot (put_in_slot held_old 1 None) 2 None
 
 -- two young objects, a small old one, and a large array
 abbrev pub one_mixed : Store

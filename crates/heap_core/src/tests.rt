@@ -8,7 +8,7 @@ ghost use Rattle.heap_parts.specs.Parts.{place_in};
 ghost use Rattle.heap_parts.specs.Effects.{HasObjectIn, layout_in, ref_place, with_word_at};
 ghost use Rattle.heap_core.specs.Heap.{closed_heap};
 ghost use Rattle.heap_core.specs.Commands.{AreReady, AreStanding, IsStanding, CanDo, PartsDo, Performs};
-ghost use Rattle.heap_core.specs.TestStores.{Runs, CanRetype, pairs, newborns, linked, tight_settings, fixed_info, array_info, tight_types, tight_setup, two_old, mixed};
+ghost use Rattle.heap_core.specs.TestStores.{Runs, CanRetype, pairs, newborns, linked, tight_settings, fixed_info, array_info, tight_types, tight_setup, two_old, left_old, mixed};
 
 use super::*;
 use crate::heap::State;
@@ -19,6 +19,7 @@ use object_model::Settings;
 use object_view::{set_int, set_ref, view};
 use std::alloc::{AllocError, Global};
 use std::test::Fail;
+use text_model::Line;
 use type_table::{Shape, TypeFault, TypeInfo, TypeTable, words};
 
 // The place of the first word outside the nursery.
@@ -433,6 +434,79 @@ fn list_mixed(
     Ok(())
 }
 
+// A third object, small and old. A word of the first alone leads to the second then, and none to the third.
+fn leave_third(heap: &mut Heap, alloc: Global) -> Result<(), HeapFault>
+    requires { Runs tight_setup heap.old two_old }
+    ensures { OnOk result (Runs tight_setup heap.new left_old) }
+{
+    let mut out = Vec::new(alloc);
+    heap.new_fixed(2, 3, &mut out)?;
+    write_ref(heap, 0, 0, 1)?;
+    heap.drop_root(1)?;
+    heap.drop_root(2)?;
+    Ok(())
+}
+
+// Appends the births of what these lines say was freed.
+fn freed_births(lines: &[Line], births: &mut Vec<u64>) -> Result<(), AllocError> {
+    for line in lines {
+        if let Line::Freed { birth } = line {
+            births.push(*birth)?;
+        }
+    }
+    Ok(())
+}
+
+// A whole collection, and the births of what it freed.
+fn collect_left(heap: &mut Heap, alloc: Global, births: &mut Vec<u64>) -> Result<(), HeapFault>
+    requires { Runs tight_setup heap.old left_old }
+    ensures { OnOk result (IsStanding heap.new) }
+{
+    let mut out = Vec::new(alloc);
+    heap.collect(&mut out)?;
+    freed_births(&out, births)?;
+    Ok(())
+}
+
+// Lists what stands in the words before and after the collection, and answers the word of the first object that refers.
+fn list_around(
+    heap: &mut Heap,
+    alloc: Global,
+    found: &mut Vec<(u64, u64, u64)>,
+    births: &mut Vec<u64>,
+) -> Result<u64, HeapFault>
+    requires { Runs tight_setup heap.old left_old }
+{
+    let word = word_of(heap, 0, 11);
+    list_all(heap, alloc, found)?;
+    collect_left(heap, alloc, births)?;
+    list_all(heap, alloc, found)?;
+    Ok(word)
+}
+
+// A heap with these three objects.
+fn start_left(heap: &mut Heap, alloc: Global) -> Result<(), Fail>
+    requires { heap.old ≡ closed_heap }
+    ensures { OnOk result (Runs tight_setup heap.new left_old) }
+{
+    start_tight(heap, alloc)?;
+    bear_old(heap, alloc)?;
+    leave_third(heap, alloc)?;
+    Ok(())
+}
+
+fn words_collected(
+    heap: &mut Heap,
+    alloc: Global,
+    found: &mut Vec<(u64, u64, u64)>,
+    births: &mut Vec<u64>,
+) -> Result<u64, Fail>
+    requires { heap.old ≡ closed_heap }
+{
+    start_left(heap, alloc)?;
+    Ok(list_around(heap, alloc, found, births)?)
+}
+
 // Starts a heap with one object, and asks for its type.
 fn play_types(heap: &mut Heap, alloc: Global) -> Result<(u16, u16), Fail>
     requires { heap.old ≡ closed_heap }
@@ -464,6 +538,16 @@ fn types_of_words(alloc: Global) -> Result<(u16, u16), Fail> {
 fn list_own(alloc: Global, found: &mut Vec<(u64, u64, u64)>) -> Result<(), Fail> {
     let mut heap = Heap::closed();
     list_mixed(&mut heap, alloc, found)
+}
+
+// What a heap of its own frees.
+fn collect_own(
+    alloc: Global,
+    found: &mut Vec<(u64, u64, u64)>,
+    births: &mut Vec<u64>,
+) -> Result<u64, Fail> {
+    let mut heap = Heap::closed();
+    words_collected(&mut heap, alloc, found, births)
 }
 
 // What the heap writes into a small and a large old object stands in their words.
@@ -511,6 +595,29 @@ fn walk_finds_all(rt: HostRuntime) -> Result<(), Fail> {
         (4_294_967_816, 4, 8_388_608),
         // at 2^40, 5 + 2^16 + 2^20 + 2^21
         (1_099_511_627_776, 17, 3_211_269),
+    ];
+    assert_eq!(rt; found.as_slice(), expected.as_slice());
+    Ok(())
+}
+
+// A collection frees just the settled object to which no slot and no word leads, the third.
+#[test]
+fn lost_is_freed(rt: HostRuntime) -> Result<(), Fail> {
+    let mut found = Vec::new(rt.alloc());
+    let mut births = Vec::new(rt.alloc());
+    let word = collect_own(rt.alloc(), &mut found, &mut births)?;
+    assert_eq!(rt; word, 1_099_511_627_776);
+    assert_eq!(rt; births.as_slice(), [3].as_slice());
+    let expected = [
+        // the first was written, and is remembered: no Track
+        (4_294_967_304, 12, 3),
+        // the third, behind it
+        (4_294_967_316, 12, 65_539),
+        // the second, at 2^40
+        (1_099_511_627_776, 20, 65_540),
+        // afterwards, the first and the second
+        (4_294_967_304, 12, 65_539),
+        (1_099_511_627_776, 20, 65_540),
     ];
     assert_eq!(rt; found.as_slice(), expected.as_slice());
     Ok(())
