@@ -1,5 +1,5 @@
 -- The stores that the heap of a test stands for, one behind each call, and what the heap can do then.
-use Rattle.std.proofs.Common.{◌≡◌, ℕ, zero, suc, ◌<◌, Bool, true, false, List, [], ◌∷◌, Option, Some, None, option_map, refl, sym, ap, ◌∙◌, subst, arith}
+use Rattle.std.proofs.Common.{◌≡◌, ℕ, ◌<◌, Bool, true, false, List, [], ◌∷◌, Option, Some, None, option_map, refl, sym, ap, ◌∙◌, subst, arith}
 use Rattle.std.specs.Prelude.{IsSome}
 use Rattle.type_table.specs.declared.info.TypeInfo.{TypeInfo}
 use Rattle.type_table.specs.declared.info.Shape.TheVariants.{Fixed}
@@ -16,7 +16,7 @@ use Rattle.text_model.specs.Range.{is_above}
 use Rattle.store_model.specs.Birth.{with_birth}
 use Rattle.store_model.specs.Births.{Births, BirthWithRoomOf, fixed_request, array_request}
 use Rattle.store_model.specs.Checks.{first_reason}
-use Rattle.store_model.specs.Collections.{When, needs_block, exceeds_limit}
+use Rattle.store_model.specs.Collections.{needs_block, exceeds_limit}
 use Rattle.store_model.specs.Look.{Look, look}
 use Rattle.store_model.specs.Slots.{held, put_in_slot}
 use Rattle.store_model.specs.Steps.{Does, put_int, put_ref}
@@ -29,7 +29,7 @@ use Rattle.heap_core.specs.Commands.{AreStanding, IsStanding, OfParts, CanDo, Is
 use Rattle.heap_core.specs.TestStores.{Runs, CanRetype, pair, pairs, newborns, linked, numbered, relinked, tight_settings, tight_types, tight_setup, fixed_info, array_info, one_old, two_old, three_old, held_old, left_old, one_mixed, two_mixed, three_mixed, mixed, joined_mixed, homed_mixed}
 use Rattle.heap_core.proofs.LookLaws.{look_told}
 use Rattle.heap_core.proofs.Ready.{kind-some, object_in_slot}
-use Rattle.heap_core.proofs.Runs.{can_do, left_by, runs_started, runs_born}
+use Rattle.heap_core.proofs.Runs.{can_do, left_by, unless, runs_started, runs_born}
 
 can_first : (heap : HeapSeen) → Runs pairs heap (newborns 0) → CanDo heap (NewFixed 0 1)
 unfolding is_above
@@ -124,10 +124,6 @@ relinks {old = old} {new = new} knows p =
 can : {setup : Setup} {heap : HeapSeen} {store : Store} (command : Command) → Runs setup heap store
     → first_reason (command_checks setup (look store) command) ≡ None → CanDo heap command
 can {setup = setup} {heap = heap} {store = store} command runs passed = can_do setup heap store command runs passed
-
-unless : (due : Bool) (Event : Store → List Line → Store → Type 0) (old : Store) (lines : List Line) (new : Store) → due ≡ false → When due Event old lines new → new ≡ old
-unless true Event old lines new e h = absurd (let no : ⊥ = cc in no)
-unless false Event old lines new e h = h.1
 
 -- where there is room, an object of many words is born old
 old_birth : (setup : Setup) (info : TypeInfo) (store later : Store) (request : Request) (lines : List Line) → type_at setup request.type_id ≡ Some info

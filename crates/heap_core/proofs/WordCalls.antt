@@ -29,7 +29,6 @@ use Rattle.heap_parts.specs.OldSpace.{reserved_blocks, reserved_homes, blocks_of
 use Rattle.heap_parts.specs.Effects.{HasObjectIn, int_place, with_word_at}
 use Rattle.heap_core.specs.Commands.{AreStanding, AreReady, PartsDo}
 use Rattle.heap_core.specs.TestStores.{CanRetype}
-use Rattle.heap_core.proofs.Ready.{put_ready}
 use Rattle.heap_core.proofs.FieldCalls.{put_does}
 
 -- what is seen in the fields of the parts, with the place of a slot and the view there

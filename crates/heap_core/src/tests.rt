@@ -380,11 +380,7 @@ fn list_blocks(
 }
 
 // Appends what stands in the nursery, and then what stands outside it.
-fn list_all(
-    heap: &Heap,
-    alloc: Global,
-    found: &mut Vec<(u64, u64, u64)>,
-) -> Result<(), HeapFault>
+fn list_all(heap: &Heap, alloc: Global, found: &mut Vec<(u64, u64, u64)>) -> Result<(), HeapFault>
     requires { IsStanding heap.now }
 {
     match &heap.state {
@@ -420,11 +416,7 @@ fn flag_mixed(heap: &mut Heap) -> Result<(), HeapFault>
     Ok(())
 }
 
-fn list_mixed(
-    heap: &mut Heap,
-    alloc: Global,
-    found: &mut Vec<(u64, u64, u64)>,
-) -> Result<(), Fail>
+fn list_mixed(heap: &mut Heap, alloc: Global, found: &mut Vec<(u64, u64, u64)>) -> Result<(), Fail>
     requires { heap.old ≡ closed_heap }
 {
     start_tight(heap, alloc)?;
