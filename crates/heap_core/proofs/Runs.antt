@@ -74,7 +74,8 @@ left_by setup old new store command runs p =
       runs = record { live = p.same_spent ∙ runs.live; setup_is = p.setup ∙ runs.setup_is; stands = done.2 };
     }
 
-unless : (due : Bool) (Event : Store → List Line → Store → Type 0) (old : Store) (lines : List Line) (new : Store) → due ≡ false → When due Event old lines new → new ≡ old
+-- where an event is not due, nothing changes
+pub unless : (due : Bool) (Event : Store → List Line → Store → Type 0) (old : Store) (lines : List Line) (new : Store) → due ≡ false → When due Event old lines new → new ≡ old
 unless true Event old lines new e h = absurd (let no : ⊥ = cc in no)
 unless false Event old lines new e h = h.1
 

@@ -1,17 +1,35 @@
 -- The stores that the heap of a test stands for, one behind each call, and what the heap can do then.
-use Rattle.std.proofs.Common.{◌≡◌, List, [], ◌∷◌, refl, subst, arith}
+use Rattle.std.proofs.Common.{◌≡◌, ℕ, ◌<◌, Bool, true, false, List, [], ◌∷◌, Option, Some, None, option_map, refl, sym, ap, ◌∙◌, subst, arith}
+use Rattle.std.specs.Prelude.{IsSome}
 use Rattle.type_table.specs.declared.info.TypeInfo.{TypeInfo}
-use Rattle.type_table.specs.Table.{Table}
-use Rattle.object_model.specs.Setup.{defaults}
-use Rattle.text_model.specs.declared.command.Command.TheVariants.{NewFixed, Put, Get, Link, Load}
+use Rattle.type_table.specs.declared.info.Shape.TheVariants.{Fixed}
+use Rattle.type_table.specs.Table.{Table, value_at, with_value}
+use Rattle.type_table.specs.Words.{words_in}
+use Rattle.object_model.specs.declared.kind.Kind.{Kind}
+use Rattle.object_model.specs.Newborn.{Request}
+use Rattle.object_model.specs.ObjectWords.{info_or_weak}
+use Rattle.object_model.specs.Setup.{Setup, defaults, young_words, type_at}
+use Rattle.text_model.specs.declared.command.Command.{Command}
+use Rattle.text_model.specs.declared.command.Command.TheVariants.{NewFixed, NewArray, Put, Get, Link, Load, DropRoot, Ident, Pin, Collect}
 use Rattle.text_model.specs.declared.line.Line.{Line}
 use Rattle.text_model.specs.Range.{is_above}
-use Rattle.store_model.specs.Steps.{Does}
+use Rattle.store_model.specs.Birth.{with_birth}
+use Rattle.store_model.specs.Births.{Births, BirthWithRoomOf, fixed_request, array_request}
+use Rattle.store_model.specs.Checks.{first_reason}
+use Rattle.store_model.specs.Collections.{needs_block, exceeds_limit}
+use Rattle.store_model.specs.Look.{Look, look}
+use Rattle.store_model.specs.Slots.{held, put_in_slot}
+use Rattle.store_model.specs.Steps.{Does, put_int, put_ref}
+use Rattle.store_model.specs.Refusal.{command_checks}
 use Rattle.store_model.specs.Store.{Store, empty_store}
-use Rattle.heap_core.specs.Heap.{HeapSeen, StandsFor}
-use Rattle.heap_core.specs.Commands.{CanDo, IsFresh, Performs}
-use Rattle.heap_core.specs.TestStores.{Runs, pair, pairs, newborns, linked, numbered, relinked}
-use Rattle.heap_core.proofs.Runs.{can_do, left_by, runs_started, runs_born}
+use Rattle.heap_parts.specs.Parts.{HeapParts, word_in, place_in}
+use Rattle.heap_parts.specs.Told.{kind_at}
+use Rattle.heap_core.specs.Heap.{HeapSeen, heap_of, StandsFor, StandsForIf}
+use Rattle.heap_core.specs.Commands.{AreStanding, IsStanding, OfParts, CanDo, IsFresh, Performs, told_by, told_if}
+use Rattle.heap_core.specs.TestStores.{Runs, CanRetype, pair, pairs, newborns, linked, numbered, relinked, tight_settings, tight_types, tight_setup, fixed_info, array_info, one_old, two_old, three_old, held_old, left_old, one_mixed, two_mixed, three_mixed, mixed, joined_mixed, homed_mixed}
+use Rattle.heap_core.proofs.LookLaws.{look_told}
+use Rattle.heap_core.proofs.Ready.{kind-some, object_in_slot}
+use Rattle.heap_core.proofs.Runs.{can_do, left_by, unless, runs_started, runs_born}
 
 can_first : (heap : HeapSeen) → Runs pairs heap (newborns 0) → CanDo heap (NewFixed 0 1)
 unfolding is_above
@@ -101,3 +119,251 @@ unfolding Does
 relinks {old = old} {new = new} knows p =
     let left = left_by pairs old new numbered (Link 0 0 2) knows.runs p in
     let runs = subst (λ (s : Store). Runs pairs new s) left.does.1 left.runs in record { runs = runs; can = (can_get new runs, can_load new runs) }
+
+-- the heap of a test can do what is not refused in its store
+can : {setup : Setup} {heap : HeapSeen} {store : Store} (command : Command) → Runs setup heap store
+    → first_reason (command_checks setup (look store) command) ≡ None → CanDo heap command
+can {setup = setup} {heap = heap} {store = store} command runs passed = can_do setup heap store command runs passed
+
+-- where there is room, an object of many words is born old
+old_birth : (setup : Setup) (info : TypeInfo) (store later : Store) (request : Request) (lines : List Line) → type_at setup request.type_id ≡ Some info
+    → young_words setup.settings < words_in info.shape request.items → needs_block setup.settings store (words_in info.shape request.items) ≡ false
+    → exceeds_limit setup.settings store (words_in info.shape request.items) ≡ false → Births setup store request lines later
+    → later ≡ with_birth true store info request
+old_birth setup info store later request lines known many room within births =
+    let birth = subst (λ (found : Option TypeInfo). BirthWithRoomOf found setup store request lines later) known births in
+    let made = birth.made_room in
+    let first : made.mid ≡ store = unless (needs_block setup.settings store (words_in info.shape request.items)) _ store made.first made.mid room made.block in
+    let second : birth.mid ≡ made.mid =
+    unless (exceeds_limit setup.settings made.mid (words_in info.shape request.items)) _ made.mid made.second birth.mid
+    (ap (λ (s : Store). exceeds_limit setup.settings s (words_in info.shape request.items)) first ∙ within) made.collect in
+    birth.born.leaves ∙ (ap (λ (is_old : Bool). with_birth is_old birth.mid info request) (birth.born.large many) ∙ ap (λ (s : Store). with_birth true s info request) (second ∙ first))
+
+-- what the heap of a test stands for after a call
+old_fixed : {old new : HeapSeen} {before after : List Line} (setup : Setup) (info : TypeInfo) (store : Store) (root type_id : ℕ) → type_at setup type_id ≡ Some info
+    → young_words setup.settings < words_in info.shape 0 → needs_block setup.settings store (words_in info.shape 0) ≡ false
+    → exceeds_limit setup.settings store (words_in info.shape 0) ≡ false
+    → Runs setup old store → Performs old new (NewFixed root type_id) before after → Runs setup new (with_birth true store info (fixed_request root type_id))
+unfolding Does
+old_fixed {old = old} {new = new} setup info store root type_id known many room within runs p =
+    let left = left_by setup old new store (NewFixed root type_id) runs p in
+    subst (λ (s : Store). Runs setup new s) (old_birth setup info store left.later (fixed_request root type_id) left.lines known many room within left.does) left.runs
+
+old_array : {old new : HeapSeen} {before after : List Line} (setup : Setup) (info : TypeInfo) (store : Store) (root type_id len : ℕ) → type_at setup type_id ≡ Some info
+    → young_words setup.settings < words_in info.shape len → needs_block setup.settings store (words_in info.shape len) ≡ false
+    → exceeds_limit setup.settings store (words_in info.shape len) ≡ false
+    → Runs setup old store → Performs old new (NewArray root type_id len) before after → Runs setup new (with_birth true store info (array_request root type_id len))
+unfolding Does
+old_array {old = old} {new = new} setup info store root type_id len known many room within runs p =
+    let left = left_by setup old new store (NewArray root type_id len) runs p in
+    subst (λ (s : Store). Runs setup new s) (old_birth setup info store left.later (array_request root type_id len) left.lines known many room within left.does) left.runs
+
+put_runs : {setup : Setup} {old new : HeapSeen} {store : Store} {before after : List Line} (root item value : ℕ) → Runs setup old store
+    → Performs old new (Put root item value) before after → Runs setup new (put_int store root item value)
+unfolding Does
+put_runs {setup = setup} {old = old} {new = new} {store = store} root item value runs p =
+    let left = left_by setup old new store (Put root item value) runs p in subst (λ (s : Store). Runs setup new s) left.does.1 left.runs
+
+link_runs : {setup : Setup} {old new : HeapSeen} {store : Store} {before after : List Line} (root item from : ℕ) → Runs setup old store
+    → Performs old new (Link root item from) before after → Runs setup new (put_ref store root item (held store.slots from))
+unfolding Does
+link_runs {setup = setup} {old = old} {new = new} {store = store} root item from runs p =
+    let left = left_by setup old new store (Link root item from) runs p in subst (λ (s : Store). Runs setup new s) left.does.1 left.runs
+
+standing_if : {setup : Setup} (spent : Bool) (parts : Option HeapParts) (store : Store) → option_map (λ (p : HeapParts). p.setup) parts ≡ Some setup
+    → StandsForIf spent parts store → OfParts parts AreStanding
+standing_if true parts store is stands = absurd stands
+standing_if false None store is stands = absurd (let no : ⊥ = cc in no)
+standing_if false (Some parts) store is stands = record { store = store; stands = stands }
+
+pub standing : {setup : Setup} {heap : HeapSeen} {store : Store} → Runs setup heap store → IsStanding heap
+standing {heap = heap} {store = store} runs = standing_if heap.is_spent heap.parts store runs.setup_is runs.stands
+
+pub tight_started : {types : Table TypeInfo} {heap : HeapSeen} → types ≡ tight_types → IsFresh heap tight_settings types → StandsFor heap (empty_store tight_settings)
+    → Runs tight_setup heap (empty_store tight_settings)
+tight_started {types = types} {heap = heap} is fresh stands =
+    subst (λ (t : Table TypeInfo). Runs (record { settings = tight_settings; types = t }) heap (empty_store tight_settings)) is (runs_started tight_settings types heap fresh stands)
+
+-- a small old object and a large one are born
+pub can_first_old : {heap : HeapSeen} → Runs tight_setup heap (empty_store tight_settings) → CanDo heap (NewFixed 0 3)
+unfolding is_above
+can_first_old runs = can (NewFixed 0 3) runs refl
+
+pub first_old : {old new : HeapSeen} {before after : List Line} → Runs tight_setup old (empty_store tight_settings) → Performs old new (NewFixed 0 3) before after
+    → Runs tight_setup new one_old
+first_old runs p = old_fixed tight_setup (fixed_info 9 1) (empty_store tight_settings) 0 3 refl (omega arith) refl refl runs p
+
+pub can_second_old : {heap : HeapSeen} → Runs tight_setup heap one_old → CanDo heap (NewFixed 1 4)
+unfolding is_above
+can_second_old runs = can (NewFixed 1 4) runs refl
+
+pub second_old : {old new : HeapSeen} {before after : List Line} → Runs tight_setup old one_old → Performs old new (NewFixed 1 4) before after
+    → Runs tight_setup new two_old
+second_old runs p = old_fixed tight_setup (fixed_info 17 1) one_old 1 4 refl (omega arith) refl refl runs p
+
+-- they are written by the heap
+pub can_put_old : {heap : HeapSeen} → Runs tight_setup heap two_old → CanDo heap (Put 0 8 5)
+unfolding is_above
+can_put_old runs = can (Put 0 8 5) runs refl
+
+pub can_link_old : {old new : HeapSeen} {before after : List Line} → Runs tight_setup old two_old → Performs old new (Put 0 8 5) before after → CanDo new (Link 0 0 1)
+unfolding is_above
+can_link_old runs p = can (Link 0 0 1) (put_runs 0 8 5 runs p) refl
+
+-- and by words
+pub can_write_old : {heap : HeapSeen} → Runs tight_setup heap two_old → CanDo heap (Put 1 16 77)
+unfolding is_above
+can_write_old runs = can (Put 1 16 77) runs refl
+
+pub written_old : {old new : HeapSeen} {before after : List Line} → Runs tight_setup old two_old → Performs old new (Put 1 16 77) before after
+    → Runs tight_setup new (put_int two_old 1 16 77)
+written_old runs p = put_runs 1 16 77 runs p
+
+pub can_relink_old : {heap : HeapSeen} → Runs tight_setup heap (put_int two_old 1 16 77) → CanDo heap (Link 1 0 0)
+unfolding is_above
+can_relink_old runs = can (Link 1 0 0) runs refl
+
+pub can_read_old : {old new : HeapSeen} {before after : List Line} → Runs tight_setup old (put_int two_old 1 16 77) → Performs old new (Link 1 0 0) before after
+    → CanDo new (Get 1 16) × CanDo new (Load 2 1 0)
+unfolding is_above
+can_read_old runs p = let after = link_runs 1 0 0 runs p in (can (Get 1 16) after refl, can (Load 2 1 0) after refl)
+
+-- a third is born, and is left when nothing refers to it
+pub can_third_old : {heap : HeapSeen} → Runs tight_setup heap two_old → CanDo heap (NewFixed 2 3)
+unfolding is_above
+can_third_old runs = can (NewFixed 2 3) runs refl
+
+pub third_old : {old new : HeapSeen} {before after : List Line} → Runs tight_setup old two_old → Performs old new (NewFixed 2 3) before after
+    → Runs tight_setup new three_old
+third_old runs p = old_fixed tight_setup (fixed_info 9 1) two_old 2 3 refl (omega arith) refl refl runs p
+
+pub can_hold_old : {heap : HeapSeen} → Runs tight_setup heap three_old → CanDo heap (Link 0 0 1)
+unfolding is_above
+can_hold_old runs = can (Link 0 0 1) runs refl
+
+pub hold_old : {old new : HeapSeen} {before after : List Line} → Runs tight_setup old three_old → Performs old new (Link 0 0 1) before after
+    → Runs tight_setup new held_old
+hold_old runs p = link_runs 0 0 1 runs p
+
+drop_runs : {setup : Setup} {old new : HeapSeen} {store : Store} {before after : List Line} (root : ℕ) → Runs setup old store
+    → Performs old new (DropRoot root) before after → Runs setup new (put_in_slot store root None)
+unfolding Does
+drop_runs {setup = setup} {old = old} {new = new} {store = store} root runs p =
+    let left = left_by setup old new store (DropRoot root) runs p in subst (λ (s : Store). Runs setup new s) left.does.1 left.runs
+
+pub can_drop_second : {heap : HeapSeen} → Runs tight_setup heap held_old → CanDo heap (DropRoot 1)
+unfolding is_above
+can_drop_second runs = can (DropRoot 1) runs refl
+
+pub drop_second : {old new : HeapSeen} {before after : List Line} → Runs tight_setup old held_old → Performs old new (DropRoot 1) before after
+    → Runs tight_setup new (put_in_slot held_old 1 None)
+drop_second runs p = drop_runs 1 runs p
+
+pub can_drop_third : {heap : HeapSeen} → Runs tight_setup heap (put_in_slot held_old 1 None) → CanDo heap (DropRoot 2)
+unfolding is_above
+can_drop_third runs = can (DropRoot 2) runs refl
+
+pub drop_third : {old new : HeapSeen} {before after : List Line} → Runs tight_setup old (put_in_slot held_old 1 None) → Performs old new (DropRoot 2) before after
+    → Runs tight_setup new left_old
+drop_third runs p = drop_runs 2 runs p
+
+pub can_collect_left : {heap : HeapSeen} → Runs tight_setup heap left_old → CanDo heap Collect
+unfolding is_above
+can_collect_left runs = can Collect runs refl
+
+pub collected : {old new : HeapSeen} {before after : List Line} → Runs tight_setup old left_old → Performs old new Collect before after → IsStanding new
+collected {old = old} {new = new} runs p = let left = left_by tight_setup old new left_old Collect runs p in standing left.runs
+
+-- the first of them can be told and become one of type 6
+full_if : {setup : Setup} (spent : Bool) (parts : Option HeapParts) (store : Store) → option_map (λ (p : HeapParts). p.setup) parts ≡ Some setup
+    → StandsForIf spent parts store → look store ≡ told_if parts
+full_if true parts store is stands = absurd stands
+full_if false None store is stands = absurd (let no : ⊥ = cc in no)
+full_if false (Some parts) store is stands = look_told parts store stands
+
+pub first_full : {heap : HeapSeen} → Runs tight_setup heap two_old → IsSome ((told_by heap).kind 0)
+first_full {heap = heap} runs = subst (λ (seen : Look). IsSome (seen.kind 0)) (full_if heap.is_spent heap.parts two_old runs.setup_is runs.stands) refl
+
+retypes_if : (parts : HeapParts) → Runs tight_setup (heap_of parts) two_old → CanRetype parts 0 6
+retypes_if parts runs =
+    let is : parts.setup ≡ tight_setup = (let e : Some parts.setup ≡ Some tight_setup = runs.setup_is in cc) in
+    let told_is : kind_at parts.setup.types (word_in parts) (place_in parts 0) ≡ Some (record { shape = Fixed 9 1; ints = 9; refs = 1 }) =
+    sym (ap (λ (seen : Look). seen.kind 0) (look_told parts two_old runs.stands)) in
+    let found = kind-some parts.setup.types (word_in parts) (place_in parts 0) _ told_is in
+    let known : value_at parts.setup.types 6 ≡ Some (fixed_info 9 1) = ap (λ (s : Setup). value_at s.types 6) is in record {
+      object = object_in_slot parts 0 (record { store = two_old; stands = runs.stands }) (subst (λ (s : Setup). 0 < s.settings.roots) (sym is) (omega arith)) found.0;
+      known = subst (λ (o : Option TypeInfo). IsSome o) (sym known) refl;
+      shape = ap (λ (o : Option TypeInfo). (info_or_weak o).shape) known ∙ ap (λ (k : Kind). k.shape) found.1;
+    }
+
+pub retypes : {heap : HeapSeen} {parts : HeapParts} → heap ≡ heap_of parts → Runs tight_setup heap two_old → CanRetype parts 0 6
+retypes {parts = parts} is runs = retypes_if parts (subst (λ (h : HeapSeen). Runs tight_setup h two_old) is runs)
+
+-- objects of all kinds are born
+pub can_first_mixed : {heap : HeapSeen} → Runs tight_setup heap (empty_store tight_settings) → CanDo heap (NewFixed 0 1)
+unfolding is_above
+can_first_mixed runs = can (NewFixed 0 1) runs refl
+
+pub first_mixed : {old new : HeapSeen} {before after : List Line} → Runs tight_setup old (empty_store tight_settings) → Performs old new (NewFixed 0 1) before after
+    → Runs tight_setup new one_mixed
+first_mixed {old = old} {new = new} runs p = runs_born tight_setup (fixed_info 1 1) old new (empty_store tight_settings) 0 1 refl (omega arith) refl refl refl runs p
+
+pub can_second_mixed : {heap : HeapSeen} → Runs tight_setup heap one_mixed → CanDo heap (NewFixed 1 2)
+unfolding is_above
+can_second_mixed runs = can (NewFixed 1 2) runs refl
+
+pub second_mixed : {old new : HeapSeen} {before after : List Line} → Runs tight_setup old one_mixed → Performs old new (NewFixed 1 2) before after
+    → Runs tight_setup new two_mixed
+second_mixed {old = old} {new = new} runs p = runs_born tight_setup (fixed_info 1 0) old new one_mixed 1 2 refl (omega arith) refl refl refl runs p
+
+pub can_third_mixed : {heap : HeapSeen} → Runs tight_setup heap two_mixed → CanDo heap (NewFixed 2 3)
+unfolding is_above
+can_third_mixed runs = can (NewFixed 2 3) runs refl
+
+pub third_mixed : {old new : HeapSeen} {before after : List Line} → Runs tight_setup old two_mixed → Performs old new (NewFixed 2 3) before after
+    → Runs tight_setup new three_mixed
+third_mixed runs p = old_fixed tight_setup (fixed_info 9 1) two_mixed 2 3 refl (omega arith) refl refl runs p
+
+pub can_fourth_mixed : {heap : HeapSeen} → Runs tight_setup heap three_mixed → CanDo heap (NewArray 3 5 14)
+unfolding is_above
+can_fourth_mixed runs = can (NewArray 3 5 14) runs refl
+
+pub fourth_mixed : {old new : HeapSeen} {before after : List Line} → Runs tight_setup old three_mixed → Performs old new (NewArray 3 5 14) before after
+    → Runs tight_setup new mixed
+fourth_mixed runs p = old_array tight_setup array_info three_mixed 3 5 14 refl (omega arith) refl refl runs p
+
+-- the array refers to the first object, whose home is told, and the second is pinned
+pub can_join_mixed : {heap : HeapSeen} → Runs tight_setup heap mixed → CanDo heap (Link 3 13 0)
+unfolding is_above
+can_join_mixed runs = can (Link 3 13 0) runs refl
+
+pub join_mixed : {old new : HeapSeen} {before after : List Line} → Runs tight_setup old mixed → Performs old new (Link 3 13 0) before after
+    → Runs tight_setup new joined_mixed
+join_mixed runs p = link_runs 3 13 0 runs p
+
+pub can_tell_mixed : {heap : HeapSeen} → Runs tight_setup heap joined_mixed → CanDo heap (Ident 0)
+unfolding is_above
+can_tell_mixed runs = can (Ident 0) runs refl
+
+pub record IsHomed (heap : HeapSeen) : Type 0 where
+  pub home : ℕ
+  pub runs : Runs tight_setup heap (homed_mixed home)
+
+pub tell_mixed : {old new : HeapSeen} {before after : List Line} → Runs tight_setup old joined_mixed → Performs old new (Ident 0) before after → IsHomed new
+unfolding Does
+tell_mixed {old = old} {new = new} runs p =
+    let left = left_by tight_setup old new joined_mixed (Ident 0) runs p in
+    let tells = left.does.1 in
+    let one : tells.birth ≡ 1 = (let e : Some 1 ≡ Some tells.birth = tells.is_held in cc) in record {
+      home = left.does.0;
+      runs =
+          subst (λ (s : Store). Runs tight_setup new s)
+          (tells.leaves ∙ ap (λ (birth : ℕ). record joined_mixed { homes = with_value joined_mixed.homes birth left.does.0 }) one) left.runs;
+    }
+
+pub can_pin_mixed : {heap : HeapSeen} → IsHomed heap → CanDo heap (Pin 1)
+unfolding is_above
+can_pin_mixed is = can (Pin 1) is.runs refl
+
+pub pin_mixed : {old new : HeapSeen} {before after : List Line} → IsHomed old → Performs old new (Pin 1) before after → IsStanding new
+pin_mixed {old = old} {new = new} is p = let left = left_by tight_setup old new (homed_mixed is.home) (Pin 1) is.runs p in standing left.runs
