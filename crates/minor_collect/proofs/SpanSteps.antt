@@ -1,7 +1,7 @@
 -- Spans are taken, until nothing is remembered.
-use Rattle.std.proofs.Common.{◌≡◌, ◌≢◌, ℕ, zero, suc, ◌+◌, ◌<◌, ◌≤◌, ◌⊎◌, Bool, true, false, IsTrue, List, [], ◌∷◌, ◌++◌, map, Option, Some, None, slice_get, length, refl, sym, ap, ap₂, ◌∙◌, subst, inl, inr, arith}
-use Rattle.std.specs.Prelude.{not}
+use Rattle.std.proofs.Common.{◌≡◌, ℕ, zero, suc, ◌<◌, ◌≤◌, ◌⊎◌, IsTrue, List, [], ◌∷◌, ◌++◌, map, take, drop, Some, slice_get, length, refl, sym, ap, ap₂, ◌∙◌, subst, inl, inr, arith}
 use Rattle.std.proofs.lemmas.Bool.Decides.{eqb_tells}
+use Rattle.std.proofs.lemmas.List.{take-append-drop, length-append}
 use Rattle.heap_space.specs.Memory.{Memory}
 use Rattle.object_model.specs.Sets.{is_in}
 use Rattle.remember_cards.specs.declared.Span.{Span}
@@ -9,13 +9,13 @@ use Rattle.remember_cards.specs.Remembered.{Held, Remembered, held_whole, held_p
 use Rattle.remember_cards.specs.Remembering.{Remembering, remembered_by}
 use Rattle.remember_cards.specs.Drained.{HandsOut}
 use Rattle.heap_parts.specs.Parts.{HeapParts}
-use Rattle.minor_collect.specs.Calls.{Stage, Spot, Middle}
-use Rattle.minor_collect.specs.Spans.{IsSpanned, IsPartOf, with_remember, CanTakeSpans, KeepsMiddle, TakesSpans, CanTakeAll, TookAll}
+use Rattle.minor_collect.specs.Calls.{Middle}
+use Rattle.minor_collect.specs.Spans.{IsSpanned, with_remember, CanTakeSpans, KeepsMiddle, TakesSpans, CanTakeAll, TookAll}
 
-get-front : (xs : List Span) (y z : Span) (k : ℕ) → slice_get xs k ≡ Some z → slice_get (xs ++ y ∷ []) k ≡ Some z
-get-front [] y z k e = absurd (let no : ⊥ = cc in no)
-get-front (x ∷ xs) y z zero e = e
-get-front (x ∷ xs) y z (suc k) e = get-front xs y z k e
+get-front : (xs ys : List Span) (z : Span) (k : ℕ) → slice_get xs k ≡ Some z → slice_get (xs ++ ys) k ≡ Some z
+get-front [] ys z k e = absurd (let no : ⊥ = cc in no)
+get-front (x ∷ xs) ys z zero e = e
+get-front (x ∷ xs) ys z (suc k) e = get-front xs ys z k e
 
 get-last : (xs : List Span) (y : Span) → slice_get (xs ++ y ∷ []) (length xs) ≡ Some y
 get-last [] y = refl
@@ -28,7 +28,7 @@ get-cases (x ∷ xs) y z zero e = inl e
 get-cases (x ∷ xs) y z (suc k) e = get-cases xs y z k e
 
 spanned-more : (spans : List Span) (y : Span) (q i : ℕ) → IsSpanned spans q i → IsSpanned (spans ++ y ∷ []) q i
-spanned-more spans y q i s = record { number = s.number; span = s.span; listed = get-front spans y s.span s.number s.listed; here = s.here; low = s.low; high = s.high }
+spanned-more spans y q i s = record { number = s.number; span = s.span; listed = get-front spans (y ∷ []) s.span s.number s.listed; here = s.here; low = s.low; high = s.high }
 
 -- nothing is taken yet
 pub takes_none : (memory : Memory) (remember : Remembering) (spans : List Span) → TakesSpans memory remember spans memory remember spans
@@ -105,6 +105,55 @@ takes_twice {remember = remember} {less = less} s t = record {
   ];
 }
 
+no-span : (spans : List Span) (k : ℕ) (span : Span) → spans ≡ [] → slice_get spans k ≡ Some span → ⊥
+no-span [] k span e s = let no : ⊥ = cc in no
+no-span (x ∷ xs) k span e s = let no : ⊥ = cc in no
+
+-- a list has the span
+record IsListed (spans : List Span) (span : Span) : Type 0 where
+  number : ℕ
+  listed : slice_get spans number ≡ Some span
+
+listed-behind : (xs ys : List Span) (z : Span) → IsListed ys z → IsListed (xs ++ ys) z
+listed-behind [] ys z l = l
+listed-behind (x ∷ xs) ys z l = let m = listed-behind xs ys z l in record { number = suc m.number; listed = m.listed }
+
+get-part : (xs ys : List Span) (z : Span) (k : ℕ) → slice_get (xs ++ ys) k ≡ Some z → (slice_get xs k ≡ Some z) ⊎ IsListed ys z
+get-part [] ys z k e = inr (record { number = k; listed = e })
+get-part (x ∷ xs) ys z zero e = inl e
+get-part (x ∷ xs) ys z (suc k) e = get-part xs ys z k e
+
+-- what is in two lists is so in the other order
+get-other : (xs ys : List Span) (z : Span) (k : ℕ) → slice_get (xs ++ ys) k ≡ Some z → IsListed (ys ++ xs) z
+get-other xs ys z k e = elim (get-part xs ys z k e) [
+  | inl first ↦ listed-behind ys xs z (record { number = k; listed = first })
+  | inr second ↦ record { number = second.number; listed = get-front ys xs z second.number second.listed }
+]
+
+spanned-other : (xs ys : List Span) (q i : ℕ) → IsSpanned (xs ++ ys) q i → IsSpanned (ys ++ xs) q i
+spanned-other xs ys q i s = let l = get-other xs ys s.span s.number s.listed in
+    record { number = l.number; span = s.span; listed = l.listed; here = s.here; low = s.low; high = s.high }
+
+-- the first spans go behind the others
+pub takes_turned : {memory new : Memory} {remember after : Remembering} {before spans : List Span} (n : ℕ) → before ≡ [] → TakesSpans memory remember before new after spans
+    → TakesSpans memory remember before new after (drop n spans ++ take n spans)
+takes_turned {before = before} {spans = spans} n empty s = record {
+  keeps = s.keeps;
+  covered = λ q i l t. elim (s.covered q i l t) [ inl u ↦ inl (turned q i u) | inr v ↦ inr v ];
+  more = λ q i u. turned q i (s.more q i u);
+  fewer = s.fewer;
+  among = s.among;
+  sound = λ k span e.
+      let l = get-other (drop n spans) (take n spans) span k e in
+      elim (s.sound l.number span (subst (λ (xs : List Span). slice_get xs l.number ≡ Some span) (take-append-drop n spans) l.listed)) [
+        | inl old ↦ absurd (no-span before l.number span empty old)
+        | inr new ↦ inr new
+      ];
+}
+  where
+    turned : (q i : ℕ) → IsSpanned spans q i → IsSpanned (drop n spans ++ take n spans) q i
+    turned q i u = spanned-other (take n spans) (drop n spans) q i (subst (λ (xs : List Span). IsSpanned xs q i) (sym (take-append-drop n spans)) u)
+
 -- more can be taken
 pub can_take_more : {memory now : Memory} {remember rest : Remembering} {before spans : List Span} → CanTakeSpans memory remember → TakesSpans memory remember before now rest spans → CanTakeSpans now rest
 can_take_more {now = now} {rest = rest} c s = record {
@@ -119,6 +168,11 @@ can_take_more {now = now} {rest = rest} c s = record {
 pub record TakesSome (memory : Memory) (remember : Remembering) (before : List Span) (new : Memory) (after : Remembering) (spans : List Span) : Type 0 where
   pub takes : TakesSpans memory remember before new after spans
   pub kept : after.kept ≡ remember.kept
+  pub more : length before ≤ length spans
+
+-- the list gets longer
+pub longer : {n : ℕ} (spans : List Span) (span : Span) → n ≤ length spans → n ≤ length (spans ++ span ∷ [])
+longer spans span l = omega (arith, l, length-append spans (span ∷ []))
 
 -- what one heap has
 pub can_take_spans : (now : HeapParts) (memory : Memory) (remember : Remembering) → CanTakeAll now → now.memory ≡ memory → now.remembered ≡ remembered_by remember → CanTakeSpans memory remember
@@ -126,10 +180,6 @@ can_take_spans now memory remember c memory_is remembered_is = record { stage = 
 
 none-held : (card : ℕ) (q i : ℕ) → IsTrue (is_held (record { card = card; held = [] }) q i) → ⊥
 none-held card q i t = let no : ⊥ = cc in no
-
-no-span : (spans : List Span) (k : ℕ) (span : Span) → spans ≡ [] → slice_get spans k ≡ Some span → ⊥
-no-span [] k span e s = let no : ⊥ = cc in no
-no-span (x ∷ xs) k span e s = let no : ⊥ = cc in no
 
 -- all of it was taken
 pub took_all : (now : HeapParts) (new : Memory) (remember after : Remembering) (before spans : List Span) → now.remembered ≡ remembered_by remember → before ≡ []

@@ -1,6 +1,6 @@
 //! What the write barrier remembered.
 
-ghost use Rattle.std.specs.Prelude.{◌≡◌, ◌+◌, ◌++◌, ℕ, [], map, filter, not, length, slice_get, Some, IsTrue, IsSome, IfSome, IfNone, OnOk};
+ghost use Rattle.std.specs.Prelude.{◌≡◌, ◌+◌, ◌≤◌, ◌++◌, ℕ, [], map, filter, not, length, slice_get, Some, IsTrue, IsSome, IfSome, IfNone, OnOk};
 ghost use Rattle.heap_space.specs.Places.{has, word_at};
 ghost use Rattle.object_model.specs.Sets.{is_in};
 ghost use Rattle.remember_cards.specs.Remembered.{held_whole, has_held_cards};
@@ -31,20 +31,24 @@ pub(crate) fn take_all(parts: &mut Parts, spans: &mut Vec<Span>) -> Result<(), A
     take_spans(&mut parts.remember, &mut parts.space, spans)
 }
 
-/// Takes all that is remembered, what was kept for pinned objects first. Nothing is remembered then. The error is out of
-/// memory.
+/// Takes all that is remembered, what was kept for pinned objects first. Nothing is remembered then. The list is empty before.
+/// The error is out of memory.
 fn take_spans(
     remember: &mut Remember,
     space: &mut Space,
     spans: &mut Vec<Span>,
 ) -> Result<(), AllocError>
-    requires { CanTakeSpans space.old remember.old }
+    requires take { CanTakeSpans space.old remember.old }
+    requires empty { spans.old.items ≡ [] }
     ensures taken { OnOk result (TakesSpans space.old remember.old spans.old.items space.new remember.new spans.new.items) }
     ensures none { OnOk result ((remember.new.entries ≡ []) × (remember.new.kept ≡ [])) }
 {
-    // A first pass hands over what is kept, if something is.
+    // The first pass takes what was written, and the second what is kept, which then goes in front.
     take_pass(remember, space, spans)?;
-    take_pass(remember, space, spans)
+    let written = spans.len();
+    take_pass(remember, space, spans)?;
+    spans.rotate_left(written);
+    Ok(())
 }
 
 /// Takes what is to be handed out. What is kept is to be handed out next. The error is out of memory.
@@ -57,6 +61,7 @@ fn take_pass(
     ensures taken { OnOk result (TakesSpans space.old remember.old spans.old.items space.new remember.new spans.new.items) }
     ensures kept { OnOk result (remember.new.kept ≡ []) }
     ensures entries { OnOk result (remember.old.kept ≡ [] → remember.new.entries ≡ []) }
+    ensures more { OnOk result (length spans.old.items ≤ length spans.new.items) }
 {
     while let Some(span) = take_span(remember, space) {
         spans.push(span)?;

@@ -58,7 +58,7 @@ impl Moving {
 #[derive(Drop)]
 pub struct Lists {
     pub(crate) moving: Moving,
-    /// The remembered items, in the order of the first remembering.
+    /// The remembered items, what was kept for pinned objects first, else in the order of the first remembering.
     pub(crate) spans: Vec<Span>,
     /// The visited objects among those that were remembered.
     pub(crate) written: Vec<u64>,

@@ -7,7 +7,10 @@ use Rattle.minor_collect.proofs.SpanSteps.{can_take_spans, took_all}
 use Rattle.minor_collect.proofs.spans.take_all.Goals as goal
 
 pub take_spans-requires : goal.take_spans-requires
-take_spans-requires c = can_take_spans (the_view c.parts.inside) c.parts.inside.space c.parts.inside.remember (subst CanTakeAll (sym c.parts.view_is) c.requires.take) refl refl
+take_spans-requires c = record {
+  take = can_take_spans (the_view c.parts.inside) c.parts.inside.space c.parts.inside.remember (subst CanTakeAll (sym c.parts.view_is) c.requires.take) refl refl;
+  empty = c.requires.empty;
+}
 
 pub returns : goal.returns
 returns c =
