@@ -58,6 +58,10 @@ pub record Queues (old new : HeapParts) (written : List ℕ) : Type 0 where
 abbrev pub visited_places : HeapParts → List Span → List ℕ
 visited_places heap spans = map (λ span. span.a) (filter (is_visited_span heap) spans)
 
+-- two lists with the same members, however often each stands there
+abbrev pub HaveSameMembers : List ℕ → List ℕ → Type 0
+HaveSameMembers xs ys = (q : ℕ) → is_in q xs ≡ is_in q ys
+
 -- what was remembered can be looked at, and the references of what marking visited
 pub record CanQueueSpans (heap : HeapParts) (spans : List Span) : Type 0 where
   pub there : (k : ℕ) (span : Span) → slice_get spans k ≡ Some span → IsTrue (has heap.memory.blocks span.a)

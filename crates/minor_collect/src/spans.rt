@@ -1,6 +1,6 @@
 //! What the write barrier remembered.
 
-ghost use Rattle.std.specs.Prelude.{◌≡◌, ◌+◌, ◌≤◌, ◌++◌, ℕ, [], map, filter, not, length, slice_get, Some, IsTrue, IsSome, IfSome, IfNone, OnOk};
+ghost use Rattle.std.specs.Prelude.{◌≡◌, ◌+◌, ◌≤◌, ◌++◌, ◌∷◌, ℕ, [], map, not, length, slice_get, Some, IsTrue, IsSome, IfSome, IfNone, OnOk};
 ghost use Rattle.heap_space.specs.Places.{has, word_at};
 ghost use Rattle.object_model.specs.Sets.{is_in};
 ghost use Rattle.remember_cards.specs.Remembered.{held_whole, has_held_cards};
@@ -8,7 +8,8 @@ ghost use Rattle.remember_cards.specs.Remembering.{remembered_by};
 ghost use Rattle.remember_cards.specs.Tracking.{with_head, flag_is, drained_head};
 ghost use Rattle.remember_cards.specs.Drained.{HandsOut, spans_left};
 ghost use Rattle.minor_collect.specs.Calls.{Stage, Spot, Standing};
-ghost use Rattle.minor_collect.specs.Spans.{CanTakeSpans, KeepsMiddle, TakesSpans, MaySpan, CanDrainSpan, DrainedSpan, CanDrainSpans, DrainedSpans, CanTakeAll, TookAll, is_visited_span};
+ghost use Rattle.minor_collect.specs.Spans.{CanTakeSpans, KeepsMiddle, TakesSpans, MaySpan, CanDrainSpan, DrainedSpan, CanDrainSpans, DrainedSpans, CanTakeAll, TookAll};
+ghost use Rattle.minor_collect.specs.Queues.{HaveSameMembers, visited_places};
 ghost use Rattle.object_header.specs.Words.{has_flag};
 ghost use Rattle.object_header.specs.declared.flags.Flag.TheVariants.{Visited};
 ghost use Rattle.heap_parts.specs.Parts.{word_in};
@@ -106,21 +107,41 @@ fn with_flag(word: u64, flag: Flag, is_set: bool) -> u64
     clear(word, flag)
 }
 
-/// Appends the places of the visited objects of these spans. The error is out of memory.
+/// Appends the places of the visited objects of these spans. An object whose spans follow one another is listed once. The
+/// error is out of memory.
 pub(crate) fn list_written(
     parts: &Parts,
     spans: &[Span],
     written: &mut Vec<u64>,
 ) -> Result<(), AllocError>
     requires { (k : ℕ) (span : Span) → slice_get spans.now k ≡ Some span → IsTrue (has parts.now.memory.blocks span.a) }
-    ensures { OnOk result (written.new.items ≡ written.old.items ++ map (λ span. span.a) (filter (is_visited_span parts.now) spans.now)) }
+    ensures { OnOk result (HaveSameMembers written.new.items (written.old.items ++ visited_places parts.now spans.now)) }
 {
     for span in spans {
         if is_visited(parts, span.a) {
-            written.push(span.a)?;
+            list_once(written, span.a)?;
         }
     }
     Ok(())
+}
+
+/// Appends a place, if it is not the last of the list already. The error is out of memory.
+fn list_once(written: &mut Vec<u64>, a: u64) -> Result<(), AllocError>
+    ensures { OnOk result (HaveSameMembers written.new.items (written.old.items ++ a ∷ [])) }
+{
+    if is_last(written, a) {
+        return Ok(());
+    }
+    written.push(a)?;
+    Ok(())
+}
+
+/// Whether a place is the last of a list.
+fn is_last(places: &[u64], a: u64) -> bool
+    ensures { IsTrue result → IsTrue (is_in a places.now) }
+{
+    let n = places.len();
+    n > 0 && places[n - 1] == a
 }
 
 /// Whether marking visited the object at a place.
