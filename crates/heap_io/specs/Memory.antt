@@ -37,6 +37,8 @@ pub record FilesInMemory : Type 0 where
   pub rest : List ℕ
   -- how many files were begun
   pub begun : ℕ
+  -- how many bytes a read gives at most
+  pub most : ℕ
   pub calls : CallCounts
 
 -- A call that begins a file is to fail, or no file has the name.

@@ -30,19 +30,24 @@ impl Model for NamedFile {
     ghost view = { λ f. record { name = f.name.items; bytes = f.bytes.items } };
 }
 
+/// How many bytes a read gives at most, where nothing else is set.
+const PIECE: usize = 4096;
+
 /// Files in memory, by their names. Of the calls that begin a file or read, which are counted
-/// together from 1, those on a list fail.
+/// together from 1, those on a list fail. A read gives 4,096 bytes at most, where nothing else is set.
 #[derive(Debug, Drop)]
 pub struct MemFiles {
     files: Vec<NamedFile>,
     current: usize,
     at: usize,
     begun: u64,
+    /// How many bytes a read gives at most.
+    most: usize,
     calls: Calls,
 }
 
 impl Model for MemFiles {
-    ghost use Rattle.std.specs.Prelude.{◌≤◌, IsTrue, length, slice_get};
+    ghost use Rattle.std.specs.Prelude.{◌<◌, ◌≤◌, IsTrue, length, slice_get};
     ghost use Rattle.heap_io.specs.Memory.{FilesInMemory, bytes_or_none, left_of, names_differ};
 
     ghost Value = { FilesInMemory };
@@ -51,18 +56,20 @@ impl Model for MemFiles {
       files = m.files.items;
       rest = left_of m.files.items m.current m.at;
       begun = m.begun;
+      most = m.most;
       calls = m.calls;
     } };
 
     ghost invariant = { λ m. IsTrue (names_differ m.files.items)
-        × (m.at ≤ length (bytes_or_none (slice_get m.files.items m.current))) };
+        × (m.at ≤ length (bytes_or_none (slice_get m.files.items m.current)))
+        × (0 < m.most) };
 }
 
 impl MemFiles {
     /// Files of which none is begun yet, so that nothing is left to be read.
     pub fn new(files: Vec<NamedFile>, fails: Vec<u64>) -> MemFiles
         requires { IsTrue (names_differ files.items) }
-        ensures { result ≡ record { files = files.items; rest = []; begun = 0; calls = before_calls fails.items } }
+        ensures { result ≡ record { files = files.items; rest = []; begun = 0; most = 4096; calls = before_calls fails.items } }
     {
         let current = files.len();
         MemFiles {
@@ -70,8 +77,17 @@ impl MemFiles {
             current,
             at: 0,
             begun: 0,
+            most: PIECE,
             calls: Calls::new(fails),
         }
+    }
+
+    /// Sets how many bytes a read gives at most, so that files come in smaller pieces.
+    pub fn set_most(&mut self, most: usize)
+        requires { 0 < most }
+        ensures { self.new ≡ record self.old { most = most } }
+    {
+        self.most = most;
     }
 
     /// How many calls failed.
@@ -102,6 +118,7 @@ impl Files for MemFiles {
         ensures failed { IsErr result ↔ BeginFails self.old name.now }
         ensures begun { OnOk result (Some self.new.rest ≡ bytes_of self.old.files name.now) }
         ensures files { self.new.files ≡ self.old.files }
+        ensures most { self.new.most ≡ self.old.most }
         ensures ok { OnOk result (self.new.calls ≡ after_success self.old.calls) }
         ensures counted { OnOk result (self.new.begun ≡ next_count self.old.begun) }
         ensures err { OnErr result (self.new ≡ record self.old { calls = after_fault self.old.calls }) }
@@ -117,15 +134,16 @@ impl Files for MemFiles {
         Ok(())
     }
 
-    /// Fills the buffer as far as the rest goes. It fails exactly where the call is on the list,
-    /// and only the counts then change.
+    /// Fills the buffer as far as the rest and the bound on a read go. It fails exactly where the call
+    /// is on the list, and only the counts then change.
     fn read(&mut self, buf: &mut [u8]) -> Result<usize, Failed>
         requires { 0 < length buf.old }
         ensures failed { IsErr result ↔ IsToFail self.old.calls }
-        ensures full { IfOk result (λ count. count ≡ min (length self.old.rest) (length buf.old)) }
+        ensures full { IfOk result (λ count. count ≡ min (min (length self.old.rest) self.old.most) (length buf.old)) }
         ensures bound { ReadsAtMost result buf.new }
         ensures taken { ReadConsumes (Some self.old.rest) (Some self.new.rest) result buf.new }
         ensures files { self.new.files ≡ self.old.files }
+        ensures most { self.new.most ≡ self.old.most }
         ensures counted { self.new.begun ≡ self.old.begun }
         ensures ok { OnOk result (self.new.calls ≡ after_success self.old.calls) }
         ensures err { OnErr result (self.new ≡ record self.old { calls = after_fault self.old.calls }) }
@@ -133,7 +151,8 @@ impl Files for MemFiles {
     {
         self.calls.count_call()?;
         let left = bytes_left(&self.files, self.current, self.at);
-        let count = copy_front(left, buf);
+        let front = left.len().min(self.most);
+        let count = copy_front(&left[..front], buf);
         self.at += count;
         Ok(count)
     }

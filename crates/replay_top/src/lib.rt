@@ -10,4 +10,6 @@ mod top;
 pub use top::{Status, run};
 
 #[cfg(test)]
+mod fault_tests;
+#[cfg(test)]
 mod tests;

@@ -20,20 +20,33 @@ struct Row {
 
 /// What a run wrote and answered.
 #[derive(Drop)]
-struct Outcome {
-    status: Status,
-    out: Vec<u8>,
-    err: Vec<u8>,
+pub(crate) struct Outcome {
+    pub(crate) status: Status,
+    pub(crate) out: Vec<u8>,
+    pub(crate) err: Vec<u8>,
 }
 
-/// The one file `s` with these bytes, where these calls fail.
-fn files_of(alloc: Global, script: &[u8], fails: &[u64]) -> Result<MemFiles, AllocError> {
+/// Which calls of the files and of the two streams fail, counted from 1, and how many bytes a read gives at most.
+#[derive(Clone, Copy)]
+pub(crate) struct Machine {
+    pub(crate) read_fails: &'static [u64],
+    pub(crate) write_fails: &'static [u64],
+    pub(crate) tell_fails: &'static [u64],
+    pub(crate) most: usize,
+}
+
+/// The one file `s` with these bytes.
+fn files_of(alloc: Global, script: Vec<u8>, machine: Machine) -> Result<MemFiles, AllocError> {
     let mut named = Vec::new(alloc);
     named.push(NamedFile {
         name: Vec::from_slice(alloc, b"s")?,
-        bytes: Vec::from_slice(alloc, script)?,
+        bytes: script,
     })?;
-    Ok(MemFiles::new(named, Vec::from_slice(alloc, fails)?))
+    let mut files = MemFiles::new(named, Vec::from_slice(alloc, machine.read_fails)?);
+    if machine.most > 0 {
+        files.set_most(machine.most);
+    }
+    Ok(files)
 }
 
 /// Words as texts of their own.
@@ -63,13 +76,29 @@ fn answered(
     alloc: Global,
     words: &[&str],
     script: &[u8],
-    read_fails: &[u64],
-    write_fails: &[u64],
+    read_fails: &'static [u64],
+    write_fails: &'static [u64],
+) -> Result<Outcome, AllocError> {
+    let machine = Machine {
+        read_fails,
+        write_fails,
+        tell_fails: &[],
+        most: 4096,
+    };
+    run_over(alloc, words, Vec::from_slice(alloc, script)?, machine)
+}
+
+/// Runs the program for words over such a machine. The script is the one file, by the name `s`.
+pub(crate) fn run_over(
+    alloc: Global,
+    words: &[&str],
+    script: Vec<u8>,
+    machine: Machine,
 ) -> Result<Outcome, AllocError> {
     let texts = texts_of(alloc, words)?;
-    let mut files = files_of(alloc, script, read_fails)?;
-    let mut out = MemSink::new(alloc, 10_000, Vec::from_slice(alloc, write_fails)?)?;
-    let mut err = MemSink::new(alloc, 1000, Vec::new(alloc))?;
+    let mut files = files_of(alloc, script, machine)?;
+    let mut out = MemSink::new(alloc, 10_000, Vec::from_slice(alloc, machine.write_fails)?)?;
+    let mut err = MemSink::new(alloc, 1000, Vec::from_slice(alloc, machine.tell_fails)?)?;
     let status = status_of(alloc, &texts, &mut files, &mut out, &mut err);
     Ok(Outcome {
         status,
