@@ -1,10 +1,9 @@
 -- No command of a generated script is refused.
-use Rattle.std.proofs.Common.{◌≡◌, ℕ, ◌+◌, ◌<◌, ◌≤◌, Bool, true, false, IsTrue, List, [], ◌∷◌, Option, Some, None, refl, sym, ap, ◌∙◌, subst, arith}
+use Rattle.std.proofs.Common.{◌≡◌, ℕ, ◌<◌, ◌≤◌, Bool, false, IsTrue, List, [], ◌∷◌, Option, Some, None, refl, ap, ◌∙◌, arith}
 use Rattle.std.specs.Prelude.{is_some, nat_lt, nat_le, option_map, option_and_then}
 use Rattle.std.proofs.lemmas.Bool.{le-ltb, lt-leb}
 use Rattle.type_table.specs.declared.info.Shape.TheVariants.{Fixed, IntArray, RefArray, Weak}
 use Rattle.text_model.specs.declared.command.Command.{Command}
-use Rattle.text_model.specs.declared.command.Command.TheVariants.{NewFixed, NewArray, NewWeak, Put, Get, Link, Load, Hash, Deref, Collect}
 use Rattle.text_model.specs.declared.item.Item.TheVariants.{Command as CommandItem}
 use Rattle.text_model.specs.Range.{is_above}
 use Rattle.object_model.specs.declared.kind.Kind.{Kind}
@@ -13,7 +12,6 @@ use Rattle.object_model.specs.Setup.{Setup}
 use Rattle.object_model.specs.Shapes.{kind_of}
 use Rattle.store_model.specs.Store.{Store}
 use Rattle.store_model.specs.Slots.{held, kind_in}
-use Rattle.store_model.specs.Roots.{is_kept}
 use Rattle.store_model.specs.Look.{look}
 use Rattle.store_model.specs.Refusal.{refusal_seen}
 use Rattle.store_model.proofs.RootLaws.{held_root}
@@ -68,11 +66,25 @@ module _ {filled most : ℕ} {store : Store} (g : IsGenerated filled most store)
     accepted _ _ (PutIn root value below full) = rw (in_range root (omega (arith, below)), is_there root (omega (arith, below)), pair_in root below full) refl
     accepted _ _ (GetFrom root below full) = rw (in_range root (omega (arith, below)), is_there root (omega (arith, below)), pair_in root below full) refl
     accepted _ _ (LinkPair root item from below full two source) =
-        rw (in_range root (omega (arith, below)), is_there root (omega (arith, below)), in_range from (omega (arith, source)), is_there from (omega (arith, source)), item_in_range item (omega (arith, two)),
-        pair_in root below full, lt-leb 2 item two) refl
+        rw (
+          in_range root (omega (arith, below)),
+          is_there root (omega (arith, below)),
+          in_range from (omega (arith, source)),
+          is_there from (omega (arith, source)),
+          item_in_range item (omega (arith, two)),
+          pair_in root below full,
+          lt-leb 2 item two,
+        ) refl
     accepted _ _ (LinkRow root item from above below full eight source) =
-        rw (in_range root (omega (arith, below)), is_there root (omega (arith, below)), in_range from (omega (arith, source)), is_there from (omega (arith, source)), item_in_range item (omega (arith, eight)),
-        row_in root above below full, lt-leb 8 item eight) refl
+        rw (
+          in_range root (omega (arith, below)),
+          is_there root (omega (arith, below)),
+          in_range from (omega (arith, source)),
+          is_there from (omega (arith, source)),
+          item_in_range item (omega (arith, eight)),
+          row_in root above below full,
+          lt-leb 8 item eight,
+        ) refl
     accepted _ _ (LoadPair root item below full two) =
         rw (in_range root (omega (arith, below)), is_there root (omega (arith, below)), item_in_range item (omega (arith, two)), pair_in root below full, lt-leb 2 item two) refl
     accepted _ _ (LoadRow root item above below full eight) =

@@ -1,6 +1,6 @@
 -- A birth leaves a store of a generated script.
-use Rattle.std.proofs.Common.{◌≡◌, ◌≢◌, ℕ, zero, suc, ◌+◌, ◌<◌, ◌≤◌, ◌⊎◌, Bool, true, false, IsTrue, List, [], ◌∷◌, ◌++◌, map, length, replicate, Option, Some, None, refl, sym, ap, ◌∙◌, subst, inl, inr, arith}
-use Rattle.std.specs.Prelude.{is_some, filter_map, slice_set}
+use Rattle.std.proofs.Common.{◌≡◌, ◌≢◌, ℕ, zero, suc, ◌+◌, ◌<◌, ◌≤◌, ◌⊎◌, Bool, false, IsTrue, List, [], ◌∷◌, map, length, replicate, Option, Some, None, refl, sym, ap, ◌∙◌, subst, inl, inr, arith}
+use Rattle.std.specs.Prelude.{filter_map, slice_set}
 use Rattle.std.proofs.lemmas.Bool.{cases_Bool, cases_eq}
 use Rattle.type_table.specs.declared.info.Shape.{Shape}
 use Rattle.type_table.specs.declared.info.Shape.TheVariants.{Fixed, IntArray, RefArray, Weak}
@@ -16,11 +16,10 @@ use Rattle.store_model.specs.Slots.{held}
 use Rattle.store_model.specs.Birth.{with_birth}
 use Rattle.store_model.specs.Roots.{is_kept, referents_in, target_in}
 use Rattle.store_model.specs.Sound.{IsSound}
-use Rattle.store_model.proofs.BirthSound.{MoreIs, more_is, kept-in}
+use Rattle.store_model.proofs.BirthSound.{more_is, kept-in}
 use Rattle.store_model.proofs.CollectionsSound.{IsWell}
 use Rattle.store_model.proofs.RootLaws.{held_root}
-use Rattle.bench_laws.proofs.Left.{IsPlain}
-use Rattle.bench_laws.proofs.Forms.{HasForm, AreFormed, AreSlotsFormed, AreFilled, IsGenerated, pair, row, weak, bench_settings, sweeps}
+use Rattle.bench_laws.proofs.Forms.{HasForm, AreSlotsFormed, AreFilled, IsGenerated, pair, row, weak, bench_settings, sweeps}
 
 -- what a slot holds that now holds something else, and what the others hold
 pub held_set : (slots : List (Option ℕ)) (slot : ℕ) (birth : Option ℕ) (i x : ℕ) → held (slice_set slots slot birth) i ≡ Some x
@@ -148,8 +147,11 @@ module _ {filled most : ℕ} {store : Store} (g : IsGenerated filled most store)
   new_filled : (now : ℕ) → ((slot : ℕ) → slot < now → (slot < filled) ⊎ (slot ≡ request.slot)) → AreFilled now after.slots
   new_filled now covers = record {
     at = λ slot below. elim (cases_eq slot request.slot) [
-      | inl same ↦ (store.next, subst (λ (k : ℕ). held after.slots k ≡ Some store.next) (sym same)
-          (held_here store.slots request.slot (Some store.next) (let sixteen = g.well.form.slots in let fits = r.fits.within in omega (arith, sixteen, fits))))
+      | inl same ↦ (
+        store.next,
+        subst (λ (k : ℕ). held after.slots k ≡ Some store.next) (sym same)
+            (held_here store.slots request.slot (Some store.next) (let sixteen = g.well.form.slots in let fits = r.fits.within in omega (arith, sixteen, fits))),
+      )
       | inr other ↦ elim (covers slot below) [
         | inl was ↦ let h = g.full.at slot was in (h.0, held_there store.slots request.slot (Some store.next) slot other ∙ h.1)
         | inr same ↦ absurd (other same)

@@ -1,5 +1,5 @@
 -- The commands of a generated script, and the forms that each of them has.
-use Rattle.std.proofs.Common.{◌≡◌, ℕ, zero, suc, ◌+◌, ◌*◌, ◌/◌, ◌%◌, ◌^◌, ◌<◌, ◌≤◌, ◌⊎◌, Bool, true, false, List, [], ◌∷◌, ◌++◌, length, cond, refl, sym, ap, ◌∙◌, subst, inl, inr, arith}
+use Rattle.std.proofs.Common.{◌≡◌, ℕ, zero, suc, ◌+◌, ◌*◌, ◌/◌, ◌%◌, ◌^◌, ◌<◌, ◌≤◌, ◌⊎◌, Bool, true, false, List, [], ◌∷◌, ◌++◌, length, cond, refl, inl, inr, arith}
 use Rattle.std.specs.Prelude.{◌==◌, nat_lt}
 use Rattle.std.proofs.lemmas.Bool.{cases_lt}
 use Rattle.std.proofs.lemmas.Nat.{mod_below}
@@ -77,13 +77,77 @@ filling_drawn : (commands : List Command) → AreDrawn 15 commands → AreDrawn 
 filling_drawn commands rest =
     let pair : (root : ℕ) → root < 8 → IsDrawn root (root + 1) (NewFixed root 1) = λ root below. Pair root below (more root) in
     let row : (root : ℕ) → 8 ≤ root → root < 12 → IsDrawn root (root + 1) (NewArray root 2 8) = λ root from below. Row root from below (more root) in
-    let numbers : (root : ℕ) → 12 ≤ root → root < 14 → IsDrawn root (root + 1) (NewArray root 4 0) = λ root from below. Numbers root 0 from below (omega arith) (more root) in
-    (1, omega arith, pair 0 (omega arith), (2, omega arith, pair 1 (omega arith), (3, omega arith, pair 2 (omega arith), (4, omega arith, pair 3 (omega arith),
-    (5, omega arith, pair 4 (omega arith), (6, omega arith, pair 5 (omega arith), (7, omega arith, pair 6 (omega arith), (8, omega arith, pair 7 (omega arith),
-    (9, omega arith, row 8 (omega arith) (omega arith), (10, omega arith, row 9 (omega arith) (omega arith),
-    (11, omega arith, row 10 (omega arith) (omega arith), (12, omega arith, row 11 (omega arith) (omega arith),
-    (13, omega arith, numbers 12 (omega arith) (omega arith), (14, omega arith, numbers 13 (omega arith) (omega arith),
-    (15, omega arith, WeakTo 0 (omega arith) (omega arith) (more 14), rest)))))))))))))))
+    let numbers : (root : ℕ) → 12 ≤ root → root < 14 → IsDrawn root (root + 1) (NewArray root 4 0) = λ root from below. Numbers root 0 from below (omega arith) (more root) in (
+      1,
+      omega arith,
+      pair 0 (omega arith),
+      (
+        2,
+        omega arith,
+        pair 1 (omega arith),
+        (
+          3,
+          omega arith,
+          pair 2 (omega arith),
+          (
+            4,
+            omega arith,
+            pair 3 (omega arith),
+            (
+              5,
+              omega arith,
+              pair 4 (omega arith),
+              (
+                6,
+                omega arith,
+                pair 5 (omega arith),
+                (
+                  7,
+                  omega arith,
+                  pair 6 (omega arith),
+                  (
+                    8,
+                    omega arith,
+                    pair 7 (omega arith),
+                    (
+                      9,
+                      omega arith,
+                      row 8 (omega arith) (omega arith),
+                      (
+                        10,
+                        omega arith,
+                        row 9 (omega arith) (omega arith),
+                        (
+                          11,
+                          omega arith,
+                          row 10 (omega arith) (omega arith),
+                          (
+                            12,
+                            omega arith,
+                            row 11 (omega arith) (omega arith),
+                            (
+                              13,
+                              omega arith,
+                              numbers 12 (omega arith) (omega arith),
+                              (
+                                14,
+                                omega arith,
+                                numbers 13 (omega arith) (omega arith),
+                                (15, omega arith, WeakTo 0 (omega arith) (omega arith) (more 14), rest),
+                              ),
+                            ),
+                          ),
+                        ),
+                      ),
+                    ),
+                  ),
+                ),
+              ),
+            ),
+          ),
+        ),
+      ),
+    )
 
 pub generated_drawn : (start n : ℕ) → AreDrawn 0 (generated_commands start n)
 generated_drawn start n = filling_drawn (drawn_commands start n ++ Collect ∷ []) (are_drawn start n)

@@ -6,14 +6,14 @@ use Rattle.object_model.specs.declared.kind.Kind.{Kind}
 use Rattle.object_model.specs.declared.settings.Settings.{Settings}
 use Rattle.object_model.specs.Object.{Object, object_at, words_of}
 use Rattle.object_model.specs.Sets.{is_in}
-use Rattle.object_model.specs.Setup.{Setup, defaults}
+use Rattle.object_model.specs.Setup.{defaults}
 use Rattle.object_model.specs.Shapes.{kind_of}
 use Rattle.type_table.specs.Words.{words_in}
 use Rattle.store_model.specs.Store.{Store}
 use Rattle.store_model.specs.Slots.{held}
 use Rattle.store_model.specs.Roots.{referents_in, target_in}
 use Rattle.store_model.proofs.CollectionsSound.{IsWell}
-use Rattle.bench_laws.proofs.Left.{IsLeft, AreLeft, IsPlain, Thins}
+use Rattle.bench_laws.proofs.Left.{AreLeft, IsPlain, Thins}
 
 -- the form of an object of type 1, which all references and targets lead to, of an array of type 2, and of a weak object
 abbrev pub pair : Kind

@@ -1,6 +1,5 @@
 -- A store stays sound where a home is told, anew or again.
-use Rattle.std.proofs.Common.{◌≡◌, ℕ, Bool, true, false, IsTrue, List, [], ◌∷◌, map, Option, Some, None, refl, sym, ap, ◌∙◌, subst, inl, inr}
-use Rattle.std.specs.Prelude.{cond, IsFalse, ◌==◌}
+use Rattle.std.proofs.Common.{◌≡◌, ℕ, IsTrue, [], ◌∷◌, map, Option, Some, None, refl, sym, ap, ◌∙◌, subst, inl, inr}
 use Rattle.std.proofs.lemmas.Bool.Decides.{eqb_tells}
 use Rattle.text_model.specs.declared.line.Phase.{Phase}
 use Rattle.text_model.specs.declared.line.Phase.TheVariants.{Scanning, Marking, Sweeping, Finalizing}
@@ -23,7 +22,7 @@ among_values : (homes : Table ℕ) (x place : ℕ) → value_at homes x ≡ Some
 among_values [] x place e = absurd (let no : ⊥ = cc in no)
 among_values (entry ∷ homes) x place e = elim (eqb_tells x entry.0) [
   | inl same ↦ (let here : Some entry.1 ≡ Some place = sym (let f : value_at (entry ∷ homes) x ≡ Some entry.1 = rw same.0 refl in f) ∙ e in
-    let is : entry.1 ≡ place = cc in subst (λ (k : ℕ). IsTrue (is_in k (home_places (entry ∷ homes)))) is (is_in-head entry.1 (home_places homes)))
+      let is : entry.1 ≡ place = cc in subst (λ (k : ℕ). IsTrue (is_in k (home_places (entry ∷ homes)))) is (is_in-head entry.1 (home_places homes)))
   | inr other ↦ is_in-tail place entry.1 (home_places homes) (among_values homes x place (rw other.0 at e))
 ]
 

@@ -1,22 +1,19 @@
 -- Each command of a generated script leaves a store of a generated script, and meets no limit.
-use Rattle.std.proofs.Common.{◌≡◌, ℕ, ◌+◌, ◌<◌, ◌≤◌, ◌⊎◌, Bool, false, IsTrue, List, [], ◌∷◌, replicate, length, Option, Some, None, refl, sym, ap, ◌∙◌, subst, inl, inr, arith}
+use Rattle.std.proofs.Common.{◌≡◌, ℕ, ◌+◌, ◌<◌, ◌≤◌, false, List, replicate, length, Option, Some, refl, sym, ap, ◌∙◌, subst, arith}
 use Rattle.std.proofs.lemmas.List.{length-replicate}
 use Rattle.type_table.specs.declared.info.Shape.TheVariants.{Fixed, IntArray, RefArray, Weak}
 use Rattle.type_table.specs.declared.info.TypeInfo.{TypeInfo}
 use Rattle.text_model.specs.declared.command.Command.{Command}
-use Rattle.text_model.specs.declared.command.Command.TheVariants.{NewFixed, NewArray, NewWeak}
 use Rattle.text_model.specs.declared.line.Line.{Line}
-use Rattle.object_model.specs.Newborn.{Request, newborn}
-use Rattle.object_model.specs.Object.{words_of}
-use Rattle.store_model.specs.Store.{Store, counted_words}
+use Rattle.object_model.specs.Newborn.{Request}
+use Rattle.store_model.specs.Store.{Store}
 use Rattle.store_model.specs.Slots.{held}
 use Rattle.store_model.specs.Births.{BirthWithRoom, fixed_request, array_request, weak_request, words_asked}
-use Rattle.store_model.specs.Collections.{MakesRoom}
 use Rattle.store_model.specs.Steps.{Does}
 use Rattle.store_model.proofs.CollectionsSound.{IsWell, birth_leaves, room_leaves}
 use Rattle.store_model.proofs.RootLaws.{held_root}
-use Rattle.bench_laws.proofs.Forms.{HasForm, IsGenerated, pair, bench_settings, sweeps}
-use Rattle.bench_laws.proofs.Born.{FitsSlot, IsSmallRequest, generated_born}
+use Rattle.bench_laws.proofs.Forms.{IsGenerated, bench_settings, sweeps}
+use Rattle.bench_laws.proofs.Born.{IsSmallRequest, generated_born}
 use Rattle.bench_laws.proofs.Writes.{put_keeps, get_keeps, link_keeps, load_keeps, deref_keeps, hash_keeps, collect_keeps}
 use Rattle.bench_laws.proofs.Room.{room_left}
 use Rattle.bench_laws.proofs.Drawn.{Covers, IsDrawn, Pair, Row, Numbers, WeakTo, PutIn, GetFrom, LinkPair, LinkRow, LoadPair, LoadRow, DerefWeak, HashPair, Whole}

@@ -1,5 +1,5 @@
 -- What a collection does to the objects: some go, and of the others at most the target.
-use Rattle.std.proofs.Common.{◌≡◌, ℕ, Bool, true, false, List, [], ◌∷◌, map, filter, Option, Some, None, refl, sym, ap, ◌∙◌, subst}
+use Rattle.std.proofs.Common.{◌≡◌, ℕ, Bool, true, false, List, [], map, filter, Option, Some, None, refl, sym, ap, ◌∙◌, subst}
 use Rattle.std.specs.Prelude.{cond, not, is_some, option_map, filter_map, nat_le}
 use Rattle.type_table.specs.Table.{Table}
 use Rattle.text_model.specs.declared.line.Line.{Line}

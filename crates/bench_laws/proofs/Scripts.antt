@@ -1,24 +1,23 @@
 -- No item of a generated script is refused, and the limit refuses no birth of it.
-use Rattle.std.proofs.Common.{◌≡◌, ℕ, zero, suc, ◌+◌, ◌<◌, ◌≤◌, IsTrue, List, [], ◌∷◌, ◌++◌, map, length, replicate, Option, Some, None, refl, sym, ap, ◌∙◌, subst, arith}
-use Rattle.std.proofs.lemmas.List.{length-replicate}
+use Rattle.std.proofs.Common.{◌≡◌, ℕ, zero, suc, ◌+◌, ◌≤◌, List, [], ◌∷◌, ◌++◌, map, length, replicate, Some, None, refl, sym, ap, ◌∙◌, subst, arith}
 use Rattle.type_table.specs.declared.info.TypeInfo.{TypeInfo}
 use Rattle.text_model.specs.declared.command.Command.{Command}
 use Rattle.text_model.specs.declared.item.Item.{Item}
 use Rattle.text_model.specs.declared.item.Item.TheVariants.{Setting, TypeDef, Command as CommandItem}
 use Rattle.text_model.specs.Generated.{generated_header, generated_commands, generated_items}
-use Rattle.object_model.specs.Setup.{Setup, bare_setup}
-use Rattle.store_model.specs.Store.{Store, empty_store}
+use Rattle.object_model.specs.Setup.{Setup}
+use Rattle.store_model.specs.Store.{empty_store}
 use Rattle.store_model.specs.Slots.{held}
-use Rattle.store_model.specs.Progress.{Progress, at_start, before_commands, after_setting, after_type, after_command}
+use Rattle.store_model.specs.Progress.{Progress, at_start, before_commands, after_setting, after_type}
 use Rattle.store_model.specs.Refusal.{refusal, refusal_seen}
 use Rattle.store_model.specs.Births.{words_asked}
 use Rattle.store_model.specs.Collections.{HasNoRoom}
 use Rattle.store_model.specs.Steps.{Does}
-use Rattle.store_model.specs.Transcript.{Group, ItemDoes, ItemExceeds, Runs, CommandDoes, CommandExceeds}
+use Rattle.store_model.specs.Transcript.{Group, ItemDoes, ItemExceeds, Runs}
 use Rattle.store_model.specs.Look.{look}
 use Rattle.store_model.proofs.EmptySound.{empty_sound}
 use Rattle.store_model.proofs.Form.{empty_form}
-use Rattle.bench_laws.proofs.Forms.{IsGenerated, bench_settings, sweeps}
+use Rattle.bench_laws.proofs.Forms.{IsGenerated, bench_settings}
 use Rattle.bench_laws.proofs.Room.{room_fits}
 use Rattle.bench_laws.proofs.Drawn.{AreDrawn, IsDrawn, generated_drawn, generated_length}
 use Rattle.bench_laws.proofs.Accepted.{bench_setup, accepted}

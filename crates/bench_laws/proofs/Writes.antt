@@ -1,5 +1,5 @@
 -- The commands of a generated script that bear nothing leave a store of a generated script.
-use Rattle.std.proofs.Common.{◌≡◌, ◌≢◌, ℕ, ◌+◌, ◌^◌, ◌<◌, ◌≤◌, ◌⊎◌, Bool, true, false, IsTrue, List, [], ◌∷◌, Option, Some, None, refl, sym, ap, ◌∙◌, subst, inl, inr, arith}
+use Rattle.std.proofs.Common.{◌≡◌, ℕ, ◌<◌, ◌≤◌, IsTrue, List, Option, Some, None, refl, sym, ap, ◌∙◌, subst, inl, inr, arith}
 use Rattle.std.specs.Prelude.{◌==◌, option_map, option_and_then, slice_set}
 use Rattle.std.proofs.lemmas.Bool.{cases_Bool}
 use Rattle.std.proofs.lemmas.List.{length-set}
@@ -9,12 +9,11 @@ use Rattle.object_model.specs.declared.kind.Kind.{Kind}
 use Rattle.object_model.specs.declared.settings.Settings.{Settings}
 use Rattle.object_model.specs.Fields.{changed_at, with_int, with_ref}
 use Rattle.object_model.specs.Object.{Object, object_at, words_of}
-use Rattle.object_model.specs.Sets.{is_in}
 use Rattle.object_model.specs.Setup.{Setup}
 use Rattle.object_model.specs.Shapes.{kind_of}
 use Rattle.store_model.specs.Store.{Store}
-use Rattle.store_model.specs.Slots.{held, object_in, put_in_slot}
-use Rattle.store_model.specs.Roots.{is_kept, referents_in, target_in}
+use Rattle.store_model.specs.Slots.{held, put_in_slot}
+use Rattle.store_model.specs.Roots.{is_kept, target_in}
 use Rattle.store_model.specs.PlainCommands.{target_at}
 use Rattle.store_model.specs.Collections.{CollectFrom}
 use Rattle.store_model.specs.Sound.{IsSound, IsInForm}
@@ -23,9 +22,8 @@ use Rattle.store_model.proofs.CollectionsSound.{IsWell, collect_leaves}
 use Rattle.store_model.proofs.CommandsSound.{put_sound, link_sound, load_sound, revive_sound}
 use Rattle.store_model.proofs.FieldChanges.{IsFieldChange, int_change, ref_change, pick, found-changed, same_but_for}
 use Rattle.store_model.proofs.Form.{Does-form}
-use Rattle.store_model.proofs.RootLaws.{held_root}
-use Rattle.bench_laws.proofs.Left.{IsLeft, AreLeft, IsPlain, Thins, all_left, collect_thins}
-use Rattle.bench_laws.proofs.Forms.{HasForm, AreFormed, AreSlotsFormed, AreFilled, IsGenerated, pair, row, weak, bench_settings, sweeps, generated_left, words_of_kind}
+use Rattle.bench_laws.proofs.Left.{Thins, all_left, collect_thins}
+use Rattle.bench_laws.proofs.Forms.{HasForm, AreFormed, AreSlotsFormed, AreFilled, IsGenerated, pair, bench_settings, sweeps, generated_left, words_of_kind}
 use Rattle.bench_laws.proofs.Born.{held_set, held_there}
 use Rattle.bench_laws.proofs.HomeLaws.{told_sound}
 
