@@ -28,9 +28,9 @@ pub data IsDrawn (filled : ℕ) : ℕ → Command → Type 0 where
   Whole : IsDrawn filled filled Collect
 
 -- commands one after another
-abbrev pub AreDrawn : ℕ → List Command → Type 0
-AreDrawn filled [] = Unit {0}
-AreDrawn filled (command ∷ commands) = (now : ℕ) × (now ≤ 15) × IsDrawn filled now command × AreDrawn now commands
+pub data AreDrawn : ℕ → List Command → Type 0 where
+  Finished : {filled : ℕ} → AreDrawn filled []
+  Then : {filled now : ℕ} {command : Command} {commands : List Command} → IsDrawn filled now command → now ≤ 15 → AreDrawn now commands → AreDrawn filled (command ∷ commands)
 
 -- all slots below 15 are filled
 abbrev Anew : Command → Type 0
@@ -66,8 +66,8 @@ is_drawn r =
     (mod_below (r / 4096) 8 (omega arith))
 
 are_drawn : (x n : ℕ) → AreDrawn 15 (drawn_commands x n ++ Collect ∷ [])
-are_drawn x zero = (15, omega arith, Whole, tt)
-are_drawn x (suc n) = (15, omega arith, is_drawn (next_drawn x / 2 ^ 33), are_drawn (next_drawn x) n)
+are_drawn x zero = Then Whole (omega arith) Finished
+are_drawn x (suc n) = Then (is_drawn (next_drawn x / 2 ^ 33)) (omega arith) (are_drawn (next_drawn x) n)
 
 -- one slot more is filled
 more : (root : ℕ) → Covers root root (root + 1)
@@ -77,77 +77,22 @@ filling_drawn : (commands : List Command) → AreDrawn 15 commands → AreDrawn 
 filling_drawn commands rest =
     let pair : (root : ℕ) → root < 8 → IsDrawn root (root + 1) (NewFixed root 1) = λ root below. Pair root below (more root) in
     let row : (root : ℕ) → 8 ≤ root → root < 12 → IsDrawn root (root + 1) (NewArray root 2 8) = λ root from below. Row root from below (more root) in
-    let numbers : (root : ℕ) → 12 ≤ root → root < 14 → IsDrawn root (root + 1) (NewArray root 4 0) = λ root from below. Numbers root 0 from below (omega arith) (more root) in (
-      1,
-      omega arith,
-      pair 0 (omega arith),
-      (
-        2,
-        omega arith,
-        pair 1 (omega arith),
-        (
-          3,
-          omega arith,
-          pair 2 (omega arith),
-          (
-            4,
-            omega arith,
-            pair 3 (omega arith),
-            (
-              5,
-              omega arith,
-              pair 4 (omega arith),
-              (
-                6,
-                omega arith,
-                pair 5 (omega arith),
-                (
-                  7,
-                  omega arith,
-                  pair 6 (omega arith),
-                  (
-                    8,
-                    omega arith,
-                    pair 7 (omega arith),
-                    (
-                      9,
-                      omega arith,
-                      row 8 (omega arith) (omega arith),
-                      (
-                        10,
-                        omega arith,
-                        row 9 (omega arith) (omega arith),
-                        (
-                          11,
-                          omega arith,
-                          row 10 (omega arith) (omega arith),
-                          (
-                            12,
-                            omega arith,
-                            row 11 (omega arith) (omega arith),
-                            (
-                              13,
-                              omega arith,
-                              numbers 12 (omega arith) (omega arith),
-                              (
-                                14,
-                                omega arith,
-                                numbers 13 (omega arith) (omega arith),
-                                (15, omega arith, WeakTo 0 (omega arith) (omega arith) (more 14), rest),
-                              ),
-                            ),
-                          ),
-                        ),
-                      ),
-                    ),
-                  ),
-                ),
-              ),
-            ),
-          ),
-        ),
-      ),
-    )
+    let numbers : (root : ℕ) → 12 ≤ root → root < 14 → IsDrawn root (root + 1) (NewArray root 4 0) = λ root from below. Numbers root 0 from below (omega arith) (more root) in
+    Then (pair 0 (omega arith)) (omega arith) (
+    Then (pair 1 (omega arith)) (omega arith) (
+    Then (pair 2 (omega arith)) (omega arith) (
+    Then (pair 3 (omega arith)) (omega arith) (
+    Then (pair 4 (omega arith)) (omega arith) (
+    Then (pair 5 (omega arith)) (omega arith) (
+    Then (pair 6 (omega arith)) (omega arith) (
+    Then (pair 7 (omega arith)) (omega arith) (
+    Then (row 8 (omega arith) (omega arith)) (omega arith) (
+    Then (row 9 (omega arith) (omega arith)) (omega arith) (
+    Then (row 10 (omega arith) (omega arith)) (omega arith) (
+    Then (row 11 (omega arith) (omega arith)) (omega arith) (
+    Then (numbers 12 (omega arith) (omega arith)) (omega arith) (
+    Then (numbers 13 (omega arith) (omega arith)) (omega arith) (
+    Then (WeakTo 0 (omega arith) (omega arith) (more 14)) (omega arith) rest))))))))))))))
 
 pub generated_drawn : (start n : ℕ) → AreDrawn 0 (generated_commands start n)
 generated_drawn start n = filling_drawn (drawn_commands start n ++ Collect ∷ []) (are_drawn start n)

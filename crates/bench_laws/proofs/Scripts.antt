@@ -19,7 +19,7 @@ use Rattle.store_model.proofs.EmptySound.{empty_sound}
 use Rattle.store_model.proofs.Form.{empty_form}
 use Rattle.bench_laws.proofs.Forms.{IsGenerated, bench_settings}
 use Rattle.bench_laws.proofs.Room.{room_fits}
-use Rattle.bench_laws.proofs.Drawn.{AreDrawn, IsDrawn, generated_drawn, generated_length}
+use Rattle.bench_laws.proofs.Drawn.{AreDrawn, Finished, Then, IsDrawn, generated_drawn, generated_length}
 use Rattle.bench_laws.proofs.Accepted.{bench_setup, accepted}
 use Rattle.bench_laws.proofs.Keeps.{info_of_pair, info_of_row, info_of_weak, info_of_numbers, command_keeps, asked_small}
 
@@ -129,8 +129,8 @@ command_leads filled most now command at new groups drawn few g is does =
 
 commands_done : (filled most : ℕ) (commands : List Command) (at : Progress) → AreDrawn filled commands → filled ≤ 15 → most + length commands ≤ 100017
     → IsGenerated filled most at.store → at.setup ≡ bench_setup → AreDone (map CommandItem commands) at
-commands_done filled most [] at drawn full few g is = tt
-commands_done filled most (command ∷ commands) at (now, now_few, one, more) full few g is = (
+commands_done filled most _ at Finished full few g is = tt
+commands_done filled most _ at (Then {now = now} {command = command} {commands = commands} one now_few more) full few g is = (
   command_done filled most now command at one (omega (arith, few)) g is,
   λ groups new does.
       let led = command_leads filled most now command at new groups one full g is does in
