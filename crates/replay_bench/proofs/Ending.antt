@@ -96,7 +96,7 @@ summarizes items tally session heap line empty text all p none is =
 -- where there is no summary nothing was written
 pub ends_unwritten : (items : List Item) (before : Option (List ℕ)) (heap : HeapSeen) (end : BenchEnd) → HasNoSummary items heap end
     → EndsBench items before before heap (Err end)
-ends_unwritten items before heap (Malformed k reason) none = (none, Keeps-refl before)
-ends_unwritten items before heap (HeapLimit k counted request limit) none = (none, Keeps-refl before)
+ends_unwritten items before heap (Malformed k reason) none = absurd none
+ends_unwritten items before heap (HeapLimit k counted request limit) none = absurd none
 ends_unwritten items before heap OutOfMemory none = Keeps-refl before
 ends_unwritten items before heap WriteFault none = absurd none

@@ -5,12 +5,12 @@ use Rattle.text_model.specs.declared.line.Line.{Line}
 use Rattle.text_model.specs.Generated.{generated_items}
 use Rattle.object_model.specs.Setup.{defaults}
 use Rattle.store_model.specs.Progress.{Progress, at_start}
-use Rattle.store_model.specs.Refusal.{refusal}
 use Rattle.store_model.specs.Transcript.{group_lines}
 use Rattle.heap_core.specs.Heap.{HeapSeen, closed_heap}
 use Rattle.session_core.specs.Seen.{SessionSeen}
 use Rattle.session_core.specs.Standing.{StandsAt, DoesItem, ExceedsItem}
-use Rattle.session_core.proofs.Places.{stands_first, heap_stands}
+use Rattle.session_core.proofs.Places.{stands_first}
+use Rattle.bench_laws.proofs.Scripts.{IsDone, AreAllDone}
 use Rattle.replay_bench.specs.declared.tally.Tally.{Tally}
 use Rattle.replay_bench.specs.declared.top.BenchEnd.{BenchEnd}
 use Rattle.replay_bench.specs.declared.top.BenchEnd.TheVariants.{Malformed, HeapLimit, OutOfMemory, WriteFault}
@@ -26,11 +26,12 @@ pub record IsDoneTo (items ahead : List Item) (number : ℕ) (tally : Tally) (se
   pub items_are : items ≡ done ++ ahead
   pub number_is : number ≡ length done
   pub counts : CountsItems done tally session heap
+  pub all_done : AreAllDone items
 
 -- none is done
 pub done_first : (items ahead : List Item) (tally : Tally) (session : SessionSeen) (heap : HeapSeen) → ahead ≡ items → tally ≡ tally_of []
-    → session ≡ record { settings = defaults; names = []; types = Some [] } → heap ≡ closed_heap → IsDoneTo items ahead 0 tally session heap
-done_first items ahead tally session heap same none first closed = record {
+    → session ≡ record { settings = defaults; names = []; types = Some [] } → heap ≡ closed_heap → AreAllDone items → IsDoneTo items ahead 0 tally session heap
+done_first items ahead tally session heap same none first closed all_done = record {
   done = [];
   items_are = sym same;
   number_is = refl;
@@ -41,6 +42,7 @@ done_first items ahead tally session heap same none first closed = record {
     counted = none;
     stands = subst (λ (h : HeapSeen). StandsAt session h at_start) (sym closed) (stands_first session first);
   };
+  all_done = all_done;
 }
 
 -- fewer items are done than there are
@@ -67,6 +69,7 @@ done_more items ahead rest item number tally new session session_after heap heap
         ∙ sym (tally_behind so.counts.groups more.groups));
     stands = more.stands;
   };
+  all_done = so.all_done;
 }
 
 -- all are done
@@ -76,39 +79,20 @@ done_all items ahead number tally session heap so none =
     subst (λ (l : List Item). CountsItems l tally session heap)
     (sym (so.items_are ∙ (ap (λ (l : List Item). so.done ++ l) none ∙ append-nil so.done))) so.counts
 
--- the next one is not done
+-- the next one is done, but for memory
 pub stops : (items ahead rest : List Item) (item : Item) (number : ℕ) (tally : Tally) (session session_after : SessionSeen) (heap heap_after : HeapSeen) (end : BenchEnd)
     → (so : IsDoneTo items ahead number tally session heap) → ahead ≡ item ∷ rest
     → EndsItem so.counts.at (number + 1) item tally session_after heap_after (Err end) → HasNoSummary items heap_after end
-stops items ahead rest item number tally session session_after heap heap_after (Malformed k reason) so is ends = record {
-  front = so.done;
-  item = item;
-  behind = rest;
-  items_are = so.items_are ∙ ap (λ (l : List Item). so.done ++ l) is;
-  number = ends.0 ∙ ap (λ n. n + 1) so.number_is;
-  groups = so.counts.groups;
-  mid = so.counts.at;
-  runs = so.counts.runs;
-  refused = ends.1;
-  stands = heap_stands session_after heap_after so.counts.at ends.2;
-}
-stops items ahead rest item number tally session session_after heap heap_after (HeapLimit k counted request limit) so is ends = record {
-  front = so.done;
-  item = item;
-  behind = rest;
-  items_are = so.items_are ∙ ap (λ (l : List Item). so.done ++ l) is;
-  number = ends.0 ∙ ap (λ n. n + 1) so.number_is;
-  groups = so.counts.groups;
-  mid = so.counts.at;
-  runs = so.counts.runs;
-  accepted = ends.1.accepted;
-  more = ends.1.groups;
-  after = ends.1.after;
-  exceeds = ends.1.exceeds;
-  stands = heap_stands session_after heap_after ends.1.after ends.1.stands;
-}
-stops items ahead rest item number tally session session_after heap heap_after OutOfMemory so is ends = tt
-stops items ahead rest item number tally session session_after heap heap_after WriteFault so is ends = absurd ends
+stops items ahead rest item number tally session session_after heap heap_after end so is ends = go end ends
+  where
+    one : IsDone so.counts.at item
+    one = so.all_done.each so.done item rest so.counts.groups so.counts.at (so.items_are ∙ ap (λ (l : List Item). so.done ++ l) is) so.counts.runs
+
+    go : (end : BenchEnd) → EndsItem so.counts.at (number + 1) item tally session_after heap_after (Err end) → HasNoSummary items heap_after end
+    go (Malformed k reason) ends = absurd (let clash : None ≡ Some reason = sym one.accepted ∙ ends.1 in let no : ⊥ = cc in no)
+    go (HeapLimit k counted request limit) ends = one.within counted request limit ends.1.groups ends.1.after ends.1.exceeds
+    go OutOfMemory ends = tt
+    go WriteFault ends = ends
 
 lines_are : (item : Item) (tally new : Tally) (session : SessionSeen) (heap : HeapSeen) (at : Progress) (before lines : List Line) → before ≡ []
     → (does : DoesItem session heap at item before lines) → new ≡ tally_plus tally (commands_of item) lines

@@ -1,11 +1,9 @@
 -- What stands when a script of these items was done for its summary.
-use Rattle.std.specs.Prelude.{◌≡◌, ℕ, ◌+◌, List, ◌∷◌, ◌++◌, length, Option, Some, None, Result, Ok, Err}
+use Rattle.std.specs.Prelude.{ℕ, List, Option, Result, Ok, Err}
 use Rattle.std.specs.Io.KnownBytes.{Appends, Keeps}
 use Rattle.text_model.specs.declared.item.Item.{Item}
-use Rattle.text_model.specs.declared.item.Reason.{Reason}
 use Rattle.store_model.specs.Progress.{Progress, at_start}
-use Rattle.store_model.specs.Refusal.{refusal}
-use Rattle.store_model.specs.Transcript.{Group, ItemExceeds, Runs}
+use Rattle.store_model.specs.Transcript.{Group, Runs}
 use Rattle.heap_core.specs.Heap.{HeapSeen}
 use Rattle.session_core.specs.Standing.{HeapStandsAt}
 use Rattle.replay_bench.specs.declared.top.BenchEnd.{BenchEnd}
@@ -21,46 +19,17 @@ pub record Summarizes (items : List Item) (heap : HeapSeen) (Says : List ℕ →
   pub says : Says (summary_text groups after.store)
   pub stands : HeapStandsAt heap after
 
--- The items are done to item k, counted from 1, which is refused for this reason.
-pub record StopsAtItem (items : List Item) (heap : HeapSeen) (k : ℕ) (reason : Reason) : Type 0 where
-  pub front : List Item
-  pub item : Item
-  pub behind : List Item
-  pub items_are : items ≡ front ++ item ∷ behind
-  pub number : k ≡ length front + 1
-  pub groups : List Group
-  pub mid : Progress
-  pub runs : Runs at_start front groups mid
-  pub refused : refusal mid item ≡ Some reason
-  pub stands : HeapStandsAt heap mid
-
--- The items are done to item k, counted from 1, whose birth the limit refuses with these numbers, and its collections are done.
-pub record StopsAtLimit (items : List Item) (heap : HeapSeen) (k counted request limit : ℕ) : Type 0 where
-  pub front : List Item
-  pub item : Item
-  pub behind : List Item
-  pub items_are : items ≡ front ++ item ∷ behind
-  pub number : k ≡ length front + 1
-  pub groups : List Group
-  pub mid : Progress
-  pub runs : Runs at_start front groups mid
-  pub accepted : refusal mid item ≡ None
-  pub more : List Group
-  pub after : Progress
-  pub exceeds : ItemExceeds mid item counted request limit more after
-  pub stands : HeapStandsAt heap after
-
--- why there is no summary of these items
+-- why there is no summary of these items: none of them is refused, and the limit refuses none
 abbrev pub HasNoSummary : List Item → HeapSeen → BenchEnd → Type 0
-HasNoSummary items heap (Malformed k reason) = StopsAtItem items heap k reason
-HasNoSummary items heap (HeapLimit k counted request limit) = StopsAtLimit items heap k counted request limit
+HasNoSummary items heap (Malformed k reason) = ⊥
+HasNoSummary items heap (HeapLimit k counted request limit) = ⊥
 HasNoSummary items heap OutOfMemory = Unit {0}
 HasNoSummary items heap WriteFault = ⊥
 
--- what stands by the answer: the summary was written, or at a write fault a part of it, and else nothing
+-- What stands by the answer: the summary was written, or at a write fault a part of it, and else nothing. There is no other answer.
 abbrev pub EndsBench : List Item → Option (List ℕ) → Option (List ℕ) → HeapSeen → Result (Unit {0}) BenchEnd → Type 0
 EndsBench items before written heap (Ok done) = Summarizes items heap (Appends before written)
-EndsBench items before written heap (Err (Malformed k reason)) = StopsAtItem items heap k reason × Keeps before written
-EndsBench items before written heap (Err (HeapLimit k counted request limit)) = StopsAtLimit items heap k counted request limit × Keeps before written
+EndsBench items before written heap (Err (Malformed k reason)) = ⊥
+EndsBench items before written heap (Err (HeapLimit k counted request limit)) = ⊥
 EndsBench items before written heap (Err OutOfMemory) = Keeps before written
 EndsBench items before written heap (Err WriteFault) = Summarizes items heap (WritesPart before written)

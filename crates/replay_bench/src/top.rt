@@ -14,7 +14,8 @@ use session_core::Session;
 use std::alloc::{AllocError, Global};
 use store_model::{Line, Reason};
 
-/// Why no summary was written of a generated script. Its items have a line each, and `line` counts these from 1.
+/// Why no summary was written of a generated script. Its items have a line each, and `line` counts these from 1. The first two are
+/// what a session may answer to an item; no item of a generated script gets them.
 #[derive(Clone, Copy, Debug, PartialEq, Eq)]
 pub enum BenchEnd {
     /// The line is refused for this reason.
@@ -51,9 +52,9 @@ impl From<AllocError> for BenchEnd {
 /// writes the summary of their transcript, which itself is not written: the lines `commands N`, `lines N`, `births N`, `minors N`,
 /// `cycles N` and `used K H`. (Scripts and summary are this project's own.)
 ///
-/// At `Malformed` and `HeapLimit` the items in front of the line are done, and at `HeapLimit` the collections of its birth; at
-/// `OutOfMemory` nothing is said of the heap. Nothing is written then. At `WriteFault` all items are done, and of the summary
-/// not all was written.
+/// No item of a generated script is refused, and the limit refuses no birth of it: `Malformed` and `HeapLimit` never come. At
+/// `OutOfMemory` nothing is said of the heap, and nothing is written. At `WriteFault` all items are done, and of the summary not
+/// all was written.
 pub fn bench<K: Sink>(
     alloc: Global,
     start: u64,

@@ -1,0 +1,12 @@
+pub mod Left
+pub mod Forms
+pub mod Few
+pub mod Born
+pub mod HomeLaws
+pub mod Writes
+pub mod Tidy
+pub mod Room
+pub mod Drawn
+pub mod Accepted
+pub mod Keeps
+pub mod Scripts
