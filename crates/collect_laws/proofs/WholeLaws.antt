@@ -1,6 +1,6 @@
 -- A whole collection of a store for which parts stand: what it leaves, and how many steps it has at most.
-use Rattle.std.proofs.Common.{◌≡◌, ℕ, ◌+◌, ◌-◌, ◌/◌, ◌<◌, ◌≤◌, Bool, true, false, List, Option, Some, None, refl, sym, ap, subst, arith}
-use Rattle.std.specs.Prelude.{length, max, not}
+use Rattle.std.proofs.Common.{◌≡◌, ℕ, ◌+◌, ◌-◌, ◌/◌, ◌<◌, ◌≤◌, Bool, true, false, List, Option, Some, None, refl, sym, subst, arith}
+use Rattle.std.specs.Prelude.{length, not}
 use Rattle.type_table.specs.declared.info.TypeInfo.{TypeInfo}
 use Rattle.text_model.specs.declared.command.Command.{Command}
 use Rattle.text_model.specs.declared.line.Line.{Line}
@@ -9,13 +9,12 @@ use Rattle.text_model.specs.declared.line.Phase.TheVariants.{Scanning, Marking, 
 use Rattle.object_model.specs.declared.settings.Settings.{Settings}
 use Rattle.object_model.specs.Object.{kept_words}
 use Rattle.object_model.specs.Newborn.{Request}
-use Rattle.object_model.specs.Setup.{Setup}
 use Rattle.object_model.specs.Sets.{is_in}
 use Rattle.store_model.specs.Store.{Store, counted_words, husk_words}
 use Rattle.store_model.specs.Births.{BirthWithRoomOf, words_of_type, words_asked}
 use Rattle.store_model.specs.MinorCollection.{AreAllPinned}
 use Rattle.store_model.specs.Collections.{When, MajorStep, Block, Collect, MakesRoom, HasNoRoom, is_step_due, needs_block, exceeds_limit}
-use Rattle.store_model.specs.CollectionBounds.{RetainedExceed, CollectsWhole, steps_told, most_steps}
+use Rattle.store_model.specs.CollectionBounds.{CollectsWhole, steps_told, most_steps}
 use Rattle.store_model.specs.Sound.{IsSound, IsPhaseSound}
 use Rattle.store_model.proofs.StepsSound.{few_births, sound_minor, sound_step}
 use Rattle.store_model.proofs.WholeCollections.{collect_retains, no_room_retained}

@@ -1,9 +1,9 @@
 -- What the calls that collect and those of births tell of what is retained.
-use Rattle.std.proofs.Common.{◌≡◌, ℕ, Bool, true, false, List, Option, Some, None, Result, Ok, Err, OnOk, refl}
+use Rattle.std.proofs.Common.{ℕ, Bool, true, false, List, Option, Some, None, Result, Ok, Err, OnOk, refl}
 use Rattle.text_model.specs.declared.command.Command.{Command}
 use Rattle.text_model.specs.declared.command.Command.TheVariants.{Collect, NewFixed, NewArray, NewWeak}
 use Rattle.text_model.specs.declared.line.Line.{Line}
-use Rattle.object_model.specs.Setup.{Setup, type_at}
+use Rattle.object_model.specs.Setup.{type_at}
 use Rattle.store_model.specs.Store.{Store}
 use Rattle.store_model.specs.Steps.{Does}
 use Rattle.store_model.specs.Births.{fixed_request, array_request, weak_request}
@@ -15,7 +15,7 @@ use Rattle.collect_laws.specs.Retained.{BirthRetained, RefusalRetained}
 use Rattle.collect_laws.proofs.WholeLaws.{collects_whole, birth_retained, refusal_retained}
 use Rattle.heap_core.specs.declared.fault.HeapFault.{HeapFault}
 use Rattle.heap_core.specs.declared.fault.HeapFault.TheVariants.{Spent, OutOfMemory, HeapLimit}
-use Rattle.heap_core.specs.Heap.{HeapSeen, StandsFor, StandsForIf}
+use Rattle.heap_core.specs.Heap.{HeapSeen, StandsForIf}
 use Rattle.heap_core.specs.Commands.{OfParts, Performs}
 use Rattle.heap_core.specs.HeapBirths.{Exceeds, AnswersBirth}
 use Rattle.heap_core.specs.Retained.{HeapUndergoes, CollectingWhole, BirthRetains}

@@ -1,8 +1,7 @@
 -- What a whole collection of a heap leaves, by itself and before a birth, and how many steps it has.
-use Rattle.std.specs.Prelude.{◌≡◌, ℕ, List, ◌++◌, Result, Ok, Err}
+use Rattle.std.specs.Prelude.{◌≡◌, List, ◌++◌, Result, Ok, Err}
 use Rattle.text_model.specs.declared.command.Command.{Command}
 use Rattle.text_model.specs.declared.line.Line.{Line}
-use Rattle.object_model.specs.Setup.{Setup}
 use Rattle.store_model.specs.Store.{Store}
 use Rattle.store_model.specs.CollectionBounds.{CollectsWhole}
 use Rattle.collect_laws.specs.Events.{EventOf}

@@ -1,9 +1,8 @@
 -- Collections keep what is retained, with its words, and nothing becomes retained.
 use Rattle.std.proofs.Common.{◌≡◌, ℕ, ◌+◌, ◌<◌, ◌⊎◌, Bool, true, false, IsTrue, List, [], ◌∷◌, ◌++◌, map, Option, Some, None, refl, sym, ap, ◌∙◌, subst, inl, inr, arith}
-use Rattle.std.specs.Prelude.{not, ◌==◌, ◌&&◌, nat_le, filter, filter_map, flat_map, option_map, option_and_then}
+use Rattle.std.specs.Prelude.{not, ◌==◌, ◌&&◌, nat_le, filter, filter_map, option_map, option_and_then}
 use Rattle.std.specs.List.{cons_option}
 use Rattle.std.proofs.lemmas.Bool.{cases_Bool}
-use Rattle.std.proofs.lemmas.Bool.Decides.{eqb_tells}
 use Rattle.std.proofs.lemmas.List.{map-append}
 use Rattle.std.proofs.lemmas.List.Sums.{sum_by-cons}
 use Rattle.text_model.specs.declared.line.Line.{Line}
@@ -15,15 +14,15 @@ use Rattle.object_model.specs.declared.settings.Settings.{Settings}
 use Rattle.object_model.specs.Object.{Object, object_at, kept_words, words_of}
 use Rattle.object_model.specs.Sets.{is_in}
 use Rattle.object_model.proofs.Members.{and_first, and_second, and_both, in-left, in-right, in-either, is_in-head, is_in-tail, is_in-cases, is_in-nil, not-true}
-use Rattle.type_table.specs.Table.{Table, KeysRise}
+use Rattle.type_table.specs.Table.{Table}
 use Rattle.store_model.specs.Store.{Store, Struct, Linked, Unlinked, Pending}
 use Rattle.store_model.specs.Structs.{forced_object, forced_objects}
 use Rattle.store_model.specs.Links.{entry_after, left_by, fate_of}
 use Rattle.store_model.specs.Roots.{is_kept, roots_of, registered_births, referents_in}
-use Rattle.store_model.specs.Reach.{Tells, objects_where, refers, LeadsTo, IsReachedFrom, IsRetained}
+use Rattle.store_model.specs.Reach.{Tells, objects_where, refers, IsReachedFrom, IsRetained}
 use Rattle.store_model.specs.MinorCollection.{MinorCollection, AreAllPinned, after_minor, vanishes, clear_target}
 use Rattle.store_model.specs.Marking.{EndOfMarking, GoesOn, with_visited, visited_words, after_marking, is_white, is_condemned}
-use Rattle.store_model.specs.Sweeping.{queues_with, after_finalizing}
+use Rattle.store_model.specs.Sweeping.{after_finalizing}
 use Rattle.store_model.specs.Collections.{StepFrom}
 use Rattle.store_model.specs.Sound.{IsSound}
 use Rattle.store_model.proofs.Rounds.{LeadsTo-start, LeadsTo-step, LeadsTo-least}
@@ -33,7 +32,7 @@ use Rattle.store_model.proofs.Survives.{root_stays as root_survives, registered_
 use Rattle.store_model.proofs.EndOfMarking.{root_stays, registered_stays, stays_refers}
 use Rattle.store_model.proofs.MarkedSound.{is_in-option, option-is_in, given_before, root_before, entry_part}
 use Rattle.store_model.proofs.FinalSound.{queued_before}
-use Rattle.store_model.proofs.Times.{one_if, times, times_queued}
+use Rattle.store_model.proofs.Times.{times, times_queued}
 use Rattle.store_model.proofs.StepsSound.{few_births, sound_visits}
 
 -- what retains something: roots, and registered objects

@@ -1,9 +1,9 @@
 -- Minor collections and major steps leave a sound store, whatever its form.
-use Rattle.std.proofs.Common.{◌≡◌, ℕ, ◌+◌, ◌<◌, ◌≤◌, Bool, true, false, nat_eq, IsTrue, List, [], ◌∷◌, ◌++◌, map, length, refl, sym, ap, ◌∙◌, subst, inl, inr, arith}
-use Rattle.std.specs.Prelude.{◌-◌, ◌==◌, IsFalse, not, ◌&&◌, nat_le}
+use Rattle.std.proofs.Common.{◌≡◌, ℕ, ◌+◌, ◌<◌, ◌≤◌, Bool, true, false, nat_eq, IsTrue, List, [], ◌∷◌, map, length, refl, sym, ◌∙◌, subst, inl, inr, arith}
+use Rattle.std.specs.Prelude.{◌-◌, IsFalse, not, ◌&&◌, nat_le}
 use Rattle.std.specs.List.{list_all, list_any, IsDistinct}
 use Rattle.std.proofs.lemmas.Bool.{cases_Bool}
-use Rattle.std.proofs.lemmas.Bool.Decides.{eqb_tells, nat_tests}
+use Rattle.std.proofs.lemmas.Bool.Decides.{nat_tests}
 use Rattle.std.proofs.lemmas.List.{length-map, length-append}
 use Rattle.std.proofs.lemmas.Map.Steps.{length-le_from_distinct_below}
 use Rattle.text_model.specs.declared.line.Line.{Line}
@@ -12,12 +12,12 @@ use Rattle.text_model.specs.declared.line.Phase.TheVariants.{Scanning, Marking, 
 use Rattle.object_model.specs.declared.settings.Settings.{Settings}
 use Rattle.object_model.specs.Object.{Object}
 use Rattle.object_model.specs.Sets.{is_in}
-use Rattle.object_model.proofs.Members.{and_first, and_second, is_in-head, is_in-tail, is_in-cases, is_in-nil, or_first, or_second, or_cases}
+use Rattle.object_model.proofs.Members.{and_first, and_second, is_in-head, is_in-tail, is_in-cases, or_cases}
 use Rattle.object_model.proofs.Distinct.{all_differ}
 use Rattle.store_model.specs.Store.{Store, is_settled}
-use Rattle.store_model.specs.MinorCollection.{MinorCollection, AreAllPinned, after_minor}
+use Rattle.store_model.specs.MinorCollection.{MinorCollection, AreAllPinned}
 use Rattle.store_model.specs.Marking.{EndOfMarking, MarkingStep, GoesOn, with_visited, visited_words, after_marking, is_white, is_condemned}
-use Rattle.store_model.specs.Sweeping.{MayEndIn, without_husks, after_sweep, after_finalizing}
+use Rattle.store_model.specs.Sweeping.{MayEndIn, without_husks, after_sweep}
 use Rattle.store_model.specs.Collections.{StepFrom}
 use Rattle.store_model.specs.MarkingOrder.{AreAllIn}
 use Rattle.store_model.specs.Sound.{IsSound, IsPhaseSound, AreNoneOf, births_in}

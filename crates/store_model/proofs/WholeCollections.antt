@@ -1,6 +1,6 @@
 -- A whole collection leaves just what was retained, and so the limit refuses a birth only where retained words leave no room.
 use Rattle.std.proofs.Common.{◌≡◌, ◌≢◌, ℕ, ◌+◌, ◌<◌, Bool, true, false, IsTrue, List, [], ◌∷◌, ◌++◌, refl, sym, ap, ◌∙◌, subst, inl, inr, arith}
-use Rattle.std.specs.Prelude.{IsFalse, not, ◌==◌, nat_le, nat_lt}
+use Rattle.std.specs.Prelude.{IsFalse, not, nat_le}
 use Rattle.std.proofs.Common.{append_assoc}
 use Rattle.std.proofs.lemmas.Bool.{cases_Bool, eq-eqb}
 use Rattle.std.proofs.lemmas.Bool.Decides.{eqb_tells, nat_tests}
@@ -13,12 +13,12 @@ use Rattle.object_model.specs.Object.{Object, kept_words, words_of}
 use Rattle.object_model.specs.Sets.{is_in}
 use Rattle.store_model.specs.Store.{Store, counted_words, husk_words}
 use Rattle.store_model.specs.Roots.{is_kept}
-use Rattle.store_model.specs.Reach.{Tells, objects_where, births_where, IsRetained}
+use Rattle.store_model.specs.Reach.{Tells, objects_where, IsRetained}
 use Rattle.store_model.specs.MinorCollection.{MinorCollection, AreAllPinned, vanishes}
 use Rattle.store_model.specs.Marking.{StartOfMarking, GoesOn, with_visited, visited_words, is_white, is_condemned}
 use Rattle.store_model.specs.Sweeping.{MayEndIn}
-use Rattle.store_model.specs.Collections.{StepFrom, MajorStep, When, Block, Cycle, Last, More, TwoCycles, CollectFrom, Collect, MakesRoom, HasNoRoom, always, is_step_due, is_scanning, needs_block, exceeds_limit}
-use Rattle.store_model.specs.CollectionBounds.{LastCycle, LeavesRetained, RetainedExceed}
+use Rattle.store_model.specs.Collections.{StepFrom, MajorStep, When, Block, Cycle, Last, More, TwoCycles, CollectFrom, Collect, HasNoRoom, always, is_step_due, is_scanning, needs_block, exceeds_limit}
+use Rattle.store_model.specs.CollectionBounds.{LeavesRetained, RetainedExceed}
 use Rattle.store_model.specs.Sound.{IsSound, IsPhaseSound, AreGone}
 use Rattle.store_model.proofs.After.{was_kept, in_births_where}
 use Rattle.store_model.proofs.FinalSound.{doomed_freed}
