@@ -7,3 +7,4 @@ pub mod Shrinks
 pub mod Cleared
 pub mod RoomLaws
 pub mod CommandLaws
+pub mod WholeLaws

@@ -1,6 +1,7 @@
 -- How many major steps the lines of collections tell of: each block with its step has one.
-use Rattle.std.proofs.Common.{◌≡◌, ℕ, ◌+◌, Bool, true, false, List, [], ◌∷◌, ◌++◌, map, refl, ap, ◌∙◌, arith}
-use Rattle.std.specs.Prelude.{filter, not, ◌&&◌, nat_le}
+use Rattle.std.proofs.Common.{◌≡◌, ℕ, ◌+◌, Bool, true, false, List, [], ◌∷◌, ◌++◌, map, refl, ap, ◌∙◌, inl, inr, arith}
+use Rattle.std.specs.Prelude.{filter, not, suc, ◌&&◌, nat_le}
+use Rattle.std.proofs.lemmas.Bool.{cases_Bool}
 use Rattle.text_model.specs.declared.line.Line.{Line}
 use Rattle.text_model.specs.declared.line.Line.TheVariants as line
 use Rattle.text_model.specs.declared.line.Line.TheVariants.{Stepped}
@@ -15,17 +16,27 @@ use Rattle.store_model.specs.MinorCollection.{MinorCollection, vanish_lines, van
 use Rattle.store_model.specs.Marking.{GoesOn, with_visited, visited_words, end_lines, is_white, is_condemned}
 use Rattle.store_model.specs.Sweeping.{husks_where, threshold_after}
 use Rattle.store_model.specs.Collections.{StepFrom, Block, always}
+use Rattle.store_model.specs.CollectionBounds.{is_step_line as is_stepped, steps_told}
 use Rattle.store_model.proofs.Times.{one_if}
 
--- whether a line tells of a major step
-abbrev pub is_stepped : Line → Bool
-is_stepped (Stepped from to) = true
-is_stepped line = false
-
--- how many of the lines do
+-- how many of the lines tell of a major step
 abbrev pub steps_in : List Line → ℕ
 steps_in [] = 0
 steps_in (line ∷ lines) = one_if (is_stepped line) + steps_in lines
+
+-- which is how many pass the test
+pub told_steps : (lines : List Line) → steps_told lines ≡ steps_in lines
+told_steps [] = refl
+told_steps (l ∷ ls) =
+    let more = told_steps ls in
+    elim (cases_Bool (is_stepped l)) [
+      | inl t ↦
+          let one : steps_told (l ∷ ls) ≡ suc (steps_told ls) = rw t refl in
+          let same : steps_in (l ∷ ls) ≡ 1 + steps_in ls = rw t refl in omega (arith, more, one, same)
+      | inr f ↦
+          let none : steps_told (l ∷ ls) ≡ steps_told ls = rw f refl in
+          let same : steps_in (l ∷ ls) ≡ 0 + steps_in ls = rw f refl in omega (arith, more, none, same)
+    ]
 
 pub steps_append : (xs ys : List Line) → steps_in (xs ++ ys) ≡ steps_in xs + steps_in ys
 steps_append [] ys = omega arith

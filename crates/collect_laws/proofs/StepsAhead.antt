@@ -55,7 +55,7 @@ div-less k a b some l =
     let more : (a / k + 1) * k ≡ a / k * k + k = grind arith in le-div (a / k + 1) b k some (omega (arith, low, l, more))
 
 -- the words of objects that pass a test, or a weaker one
-all_words : (kept : List Object) (test : ℕ → Bool) → kept_words (objects_where kept test) ≤ kept_words kept
+pub all_words : (kept : List Object) (test : ℕ → Bool) → kept_words (objects_where kept test) ≤ kept_words kept
 all_words [] test = omega arith
 all_words (o ∷ os) test =
     let more = all_words os test in let all = sum_by-cons words_of o os in

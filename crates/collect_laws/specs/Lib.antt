@@ -2,3 +2,4 @@ pub mod Events
 pub mod Tests
 pub mod Collections
 pub mod Room
+pub mod Retained

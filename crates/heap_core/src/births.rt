@@ -10,6 +10,7 @@ ghost use Rattle.heap_core.specs.Bearing.{IsFitting, MayAsk, MayBear, BearsKnown
 ghost use Rattle.heap_core.specs.Commands.{AreReady, CanDo, PartsKeep};
 ghost use Rattle.heap_core.specs.Room.{BearsInRoom, EndsBirth};
 ghost use Rattle.heap_core.specs.HeapBirths.{AnswersBirth};
+ghost use Rattle.heap_core.specs.Retained.{BirthRetains};
 
 use crate::collecting::{Collector, make_room};
 use crate::collections::lists_of;
@@ -40,6 +41,7 @@ impl Heap {
     ) -> Result<(), HeapFault>
         requires { CanDo self.old (NewFixed root type_id) }
         ensures answers { AnswersBirth (NewFixed root type_id) self.old self.new out.old.items out.new.items result }
+        ensures retained { BirthRetains (NewFixed root type_id) self.old self.new out.old.items out.new.items result }
         ensures spent { IsTrue self.old.is_spent → result ≡ Err Spent }
     {
         match &mut self.state {
@@ -62,6 +64,7 @@ impl Heap {
     ) -> Result<(), HeapFault>
         requires { CanDo self.old (NewArray root type_id len) }
         ensures answers { AnswersBirth (NewArray root type_id len) self.old self.new out.old.items out.new.items result }
+        ensures retained { BirthRetains (NewArray root type_id len) self.old self.new out.old.items out.new.items result }
         ensures spent { IsTrue self.old.is_spent → result ≡ Err Spent }
     {
         match &mut self.state {

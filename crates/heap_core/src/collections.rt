@@ -5,6 +5,7 @@ ghost use Rattle.heap_core.specs.declared.fault.HeapFault.TheVariants.{Spent};
 ghost use Rattle.heap_core.specs.Heap.{spent_heap};
 ghost use Rattle.heap_core.specs.Commands.{CanDo, Performs, fault_of};
 ghost use Rattle.heap_core.specs.HeapBirths.{EndsCall, EndsBirthCall};
+ghost use Rattle.heap_core.specs.Retained.{HeapUndergoes, CollectingWhole};
 
 use crate::collecting::{Collector, collect_all, collect_minor, collect_step};
 use crate::fault::HeapFault;
@@ -54,10 +55,12 @@ impl Heap {
     }
 
     /// A whole collection: such blocks until a cycle ends, and a whole cycle more where one ran before. The lines are appended.
-    /// The error is out of memory: the heap is spent then, and no line is there.
+    /// Afterwards just those objects are kept that were retained before, and its steps are at most `most_steps`. The error is out
+    /// of memory: the heap is spent then, and no line is there.
     pub fn collect(&mut self, out: &mut Vec<Line>) -> Result<(), HeapFault>
         requires { CanDo self.old Collect }
         ensures performs { OnOk result (Performs self.old self.new Collect out.old.items out.new.items) }
+        ensures retained { OnOk result (HeapUndergoes CollectingWhole self.old self.new out.old.items out.new.items) }
         ensures err { OnErr result (self.new ≡ spent_heap) }
         ensures err_out { OnErr result (out.new.items ≡ out.old.items) }
         ensures cause { IfErr result (λ fault. fault ≡ fault_of self.old.is_spent) }

@@ -7,6 +7,7 @@ ghost use Rattle.heap_core.specs.Bearing.{MayBearWeak, BearsWeakKnown};
 ghost use Rattle.heap_core.specs.Commands.{AreReady, CanDo, PartsDo, PartsKeep, Performs};
 ghost use Rattle.heap_core.specs.Room.{EndsBirth};
 ghost use Rattle.heap_core.specs.HeapBirths.{AnswersBirth};
+ghost use Rattle.heap_core.specs.Retained.{BirthRetains};
 
 use crate::births::LAST_BIRTH;
 use crate::collecting::{Collector, make_room};
@@ -31,6 +32,7 @@ impl Heap {
     ) -> Result<(), HeapFault>
         requires { CanDo self.old (NewWeak root type_id target) }
         ensures answers { AnswersBirth (NewWeak root type_id target) self.old self.new out.old.items out.new.items result }
+        ensures retained { BirthRetains (NewWeak root type_id target) self.old self.new out.old.items out.new.items result }
         ensures spent { IsTrue self.old.is_spent → result ≡ Err Spent }
     {
         match &mut self.state {

@@ -13,6 +13,7 @@ pub mod MinorCollection
 pub mod Marking
 pub mod Sweeping
 pub mod Collections
+pub mod CollectionBounds
 pub mod Births
 pub mod Identity
 pub mod PlainCommands
