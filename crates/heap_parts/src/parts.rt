@@ -16,6 +16,7 @@ use rawref_links::Links;
 use remember_cards::Remember;
 use shadow_ids::Shadows;
 use std::alloc::{AllocError, Global};
+use std::collections::BTreeMap;
 use std::marker::Model;
 use text_model::Phase;
 use type_table::{TypeInfo, TypeTable};
@@ -58,8 +59,8 @@ pub struct Parts {
     pub unsettled: u64,
     /// The words of the objects and husks outside it.
     pub old_words: u64,
-    /// The births of the husks with their words, by rising birth.
-    pub husks: Vec<(u64, u64)>,
+    /// The words of each husk by its birth.
+    pub husks: BTreeMap<u64, u64>,
 }
 
 impl Model for Parts {
@@ -97,7 +98,7 @@ impl Model for Parts {
       gapped = p.gapped;
       unsettled = p.unsettled;
       old_words = p.old_words;
-      husk_list = p.husks.items;
+      husk_list = p.husks.entries;
     } };
 }
 
@@ -132,7 +133,7 @@ impl Parts {
             gapped: false,
             unsettled: 0,
             old_words: 0,
-            husks: Vec::new(alloc),
+            husks: BTreeMap::new(alloc),
         })
     }
 

@@ -100,6 +100,6 @@ impl Parts {
         requires { husk_words_of self.now.husk_list < 2 ^ 64 }
         ensures { result ≡ husk_words_of self.now.husk_list }
     {
-        self.husks.iter().map(|husk| husk.1).sum()
+        self.husks.values().copied().sum()
     }
 }

@@ -5,7 +5,7 @@ use Rattle.std.specs.List.Sorted.{IsPermutation}
 use Rattle.std.proofs.lemmas.Bool.{cases_Bool, ne_eqb}
 use Rattle.std.proofs.lemmas.List.{map-id}
 use Rattle.std.proofs.lemmas.List.Elements.{filter-append}
-use Rattle.std.proofs.lemmas.List.Sorted.{IsPermutation-map, IsPermutation-trans, list_any-IsPermutation, sum_by-IsPermutation}
+use Rattle.std.proofs.lemmas.List.Sorted.{IsPermutation-map, IsPermutation-sym, IsPermutation-trans, list_any-IsPermutation, sum_by-IsPermutation}
 use Rattle.std.proofs.lemmas.Simd.{map-map}
 use Rattle.std.proofs.lemmas.List.Sums.{sum_by-cons}
 use Rattle.type_table.specs.declared.info.TypeInfo.{TypeInfo}
@@ -31,6 +31,7 @@ use Rattle.heap_parts.specs.StandsFor.{PartsStandFor}
 use Rattle.frame_laws.proofs.Filters.{filter_at}
 use Rattle.frame_laws.proofs.MinorNeeds.{settled_place}
 use Rattle.frame_laws.proofs.PlaceLaws.{young-is_in, old-is_in, is_in-young, is_in-old}
+use Rattle.frame_laws.proofs.RiseLines.{keys_rise}
 use Rattle.frame_laws.proofs.SweepNeeds.{shadow_lives}
 use Rattle.heap_phases.specs.Ending.{AreDead, AreDestroyed, AreHusks, places_in, is_dead_in, birth_in, is_destroyed, husk_of}
 use Rattle.heap_phases.proofs.DeadCalls.{passing_permuted}
@@ -41,7 +42,6 @@ use Rattle.heap_phases.proofs.EndCode.{clears}
 use Rattle.heap_phases.proofs.EndLines.{SortsBirths}
 use Rattle.heap_phases.proofs.EndLists.{rise_filtered}
 use Rattle.heap_phases.proofs.EndWords.{losing, losing_old}
-use Rattle.heap_phases.proofs.HuskTable.{same_table}
 use Rattle.heap_phases.proofs.SweepWords.{each-of-homes}
 
 filter-two : (f g : ℕ → Bool) (ps : List ℕ) → filter (λ p. f p && g p) ps ≡ filter g (filter f ps)
@@ -173,13 +173,13 @@ module _ (heap : HeapParts) (store : Store) (s : PartsStandFor heap store) (mark
   -- the table of husks
   pub husks_are : (husks : Table ℕ) → AreHusks m dead husks → husks ≡ map (husk_at heap.setup.types (word_in heap)) lost
   husks_are husks h =
-      let same : IsPermutation (map (husk_at types w) lost) husks =
-      subst (λ (xs : List (ℕ × ℕ)). IsPermutation xs husks) husks-read (IsPermutation-trans _ _ _ (IsPermutation-map (husk_of m) (map B lost) dead dead_blocks) h.just) in
+      let same : IsPermutation (map (husk_of m) dead) (map (husk_at types w) lost) =
+      subst (λ (xs : List (ℕ × ℕ)). IsPermutation (map (husk_of m) dead) xs) husks-read (IsPermutation-sym _ _ (IsPermutation-map (husk_of m) (map B lost) dead dead_blocks)) in
       let keys : map (λ (e : ℕ × ℕ). e.0) (map (husk_at types w) lost) ≡ map s.name lost =
       map-map (λ (e : ℕ × ℕ). e.0) (husk_at types w) lost ∙ map-same (λ p. w (p + 1)) s.name lost (λ p t. sym (s.words.objects.named p (lost_part p t).0)) in
-      same_table heap.next (map (husk_at types w) lost) husks same h.rising
-      (subst (λ (ks : List ℕ). RiseBetween 1 ks heap.next) (sym keys) (rise_filtered s.name (λ p. gone (s.name p)) s.places 1 heap.next s.births.rise))
-      (let n = s.sound.births.next_above in let e = s.counts.next_is in omega (arith, n, e))
+      h.are (map (husk_at types w) lost)
+      (keys_rise (map (husk_at types w) lost) 1 heap.next (subst (λ (ks : List ℕ). RiseBetween 1 ks heap.next) (sym keys) (rise_filtered s.name (λ p. gone (s.name p)) s.places 1 heap.next s.births.rise)))
+      same
 
   -- their words
   pub dead_words : sum_by (λ (x : Extent). x.1) dead ≡ sum_by (words_at heap.setup.types (word_in heap)) lost

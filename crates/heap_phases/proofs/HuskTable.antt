@@ -1,23 +1,38 @@
--- Lists that were sorted: the places of blocks, and husks by their births.
-use Rattle.std.proofs.Common.{◌≡◌, ℕ, zero, suc, ◌+◌, ◌≤◌, ◌<◌, ◌⊎◌, false, IsTrue, List, [], ◌∷◌, map, length, get_or, refl, sym, ap, ap₂, subst, inl, inr, arith}
-use Rattle.std.specs.Prelude.{IsSorted}
-use Rattle.std.specs.Ordering.{nat_cmp, is_lt}
-use Rattle.std.specs.Cmp.{nat_cmp_is}
+-- Lists that are in order: the places of blocks, and the table of husks, which is filled and emptied an entry at a time.
+use Rattle.std.proofs.Common.{◌≡◌, ℕ, zero, suc, ◌+◌, ◌≤◌, ◌<◌, Bool, true, false, cond, List, [], ◌∷◌, ◌++◌, map, length, take, get_or, Option, Some, None, refl, sym, ap, ◌∙◌, subst, inl, inr, arith}
+use Rattle.std.specs.Prelude.{IsSorted, not, ◌==◌, ◌&&◌, ◌||◌, nat_eq, filter, unwrap_or}
+use Rattle.std.specs.Ordering.{nat_cmp, is_lt, eq_by_cmp}
+use Rattle.std.specs.Cmp.{nat_cmp_is, nat_cmp_total, eq_by_cmp_equiv, unsigned_tied}
 use Rattle.std.specs.declared.cmp.Ordering.TheVariants.{Greater}
-use Rattle.std.specs.List.{All}
-use Rattle.std.specs.List.Sorted.{IsPermutation, IsNonDecreasing, IsNonDecreasingBy}
+use Rattle.std.specs.BTreeMap.{is_at}
+use Rattle.std.specs.Map.{keys_of, lookup, remove_entry, update, update_all}
+use Rattle.std.specs.List.{All, IsDistinct}
+use Rattle.std.specs.List.Sorted.{IsPermutation, IsNonDecreasing, IsStrictlySortedBy}
+use Rattle.std.proofs.lemmas.Bool.{cases_eq, eqb-true, ne_eqb}
+use Rattle.std.proofs.lemmas.Bool.Decides.{nat_tests}
+use Rattle.std.proofs.lemmas.List.{length-map, map-append, take_all, take_more}
+use Rattle.std.proofs.lemmas.List.Elements.{All-head, All-tail}
+use Rattle.std.proofs.lemmas.List.Folds.{list_any-append}
+use Rattle.std.proofs.lemmas.List.Sums.{sum_by-cons, fold-append}
+use Rattle.std.proofs.lemmas.List.Sorted.{IsNonDecreasingBy-from_all_adjacent, IsPermutation-map, IsPermutation-sym}
+use Rattle.std.proofs.lemmas.Map.Keys.{below_from_sorted, IsDistinct-from_apart}
+use Rattle.std.proofs.lemmas.Map.Made.{update_all_none}
+use Rattle.indexmap.proofs.MapLemmas.{lookup_permutation, distinct_permutation}
 use Rattle.object_view.proofs.FoundLaws.{get_or-map}
-use Rattle.std.proofs.lemmas.List.{length-map}
-use Rattle.std.proofs.lemmas.List.Elements.{All-cons, All-nil, All-head, All-tail}
-use Rattle.std.proofs.lemmas.List.Sorted.{IsNonDecreasingBy-from_all_adjacent, IsPermutation-map, IsPermutation-refl, All-permutation}
 use Rattle.heap_space.specs.Extents.{Extent}
 use Rattle.size_pages.specs.Headers.{RiseByPlace}
-use Rattle.type_table.specs.Table.{Table}
+use Rattle.type_table.specs.Table.{Table, KeysRise, value_at}
+use Rattle.type_table.proofs.TableLaws.{KeysRise-tail, KeysRise-entries_where, first_key_below}
+use Rattle.rawref_links.proofs.Tables.{same_table}
+use Rattle.rawref_links.proofs.Tabled.{nat_eq-turned}
 use Rattle.object_model.specs.Sets.{is_in}
-use Rattle.object_model.proofs.Members.{is_in-head, is_in-tail, is_in-cases, is_in-nil}
-use Rattle.heap_parts.specs.Places.{RiseBetween}
-use Rattle.frame_laws.proofs.RiseLines.{sorted_births}
+use Rattle.store_model.specs.Store.{husk_words}
+use Rattle.store_model.specs.Sweeping.{husks_where}
+use Rattle.frame_laws.proofs.Filters.{filter_all}
 use Rattle.heap_phases.specs.Ending.{places_in}
+use Rattle.heap_phases.specs.Swept.{freed_words}
+use Rattle.heap_phases.proofs.EndStands.{sum_split}
+use Rattle.heap_phases.proofs.SweepSteps.{filter-then, both-bool}
 
 -- places rise where blocks do
 adjacent : (xs : List Extent) → RiseByPlace xs → (k : ℕ) (d : ℕ) → k + 1 < length (places_in xs) → get_or (places_in xs) k d < get_or (places_in xs) (k + 1) d
@@ -41,74 +56,140 @@ not-less x y l = ap is_lt (sym (nat_cmp_is y x Greater l))
 pub places_sorted : (xs : List Extent) → RiseByPlace xs → IsSorted nat_cmp (places_in xs)
 places_sorted xs rise = λ k d low l. not-less (get_or (places_in xs) k d) (get_or (places_in xs) (k + 1) d) (adjacent xs rise k d l)
 
--- whether an entry is listed
-abbrev In : ℕ × ℕ → List (ℕ × ℕ) → Type 0
-In e [] = ⊥
-In e (x ∷ xs) = (e ≡ x) ⊎ In e xs
-
-all-in : (xs : List (ℕ × ℕ)) → All (λ e. In e xs) xs
-all-in [] = All-nil (λ e. In e [])
-all-in (x ∷ xs) = All-cons (λ e. In e (x ∷ xs)) x xs (inl refl) (more xs (all-in xs))
-  where
-    more : (ys : List (ℕ × ℕ)) → All (λ e. In e xs) ys → All (λ e. In e (x ∷ xs)) ys
-    more [] all = All-nil (λ e. In e (x ∷ xs))
-    more (y ∷ ys) all = All-cons (λ e. In e (x ∷ xs)) y ys (inr (All-head (λ e. In e xs) y ys all)) (more ys (All-tail (λ e. In e xs) y ys all))
-
-key-in : (e : ℕ × ℕ) (xs : List (ℕ × ℕ)) → In e xs → IsTrue (is_in e.0 (map (λ x. x.0) xs))
-key-in e [] t = absurd t
-key-in e (x ∷ xs) (inl is) = subst (λ (k : ℕ). IsTrue (is_in k (map (λ y. y.0) (x ∷ xs)))) (ap (λ (z : ℕ × ℕ). z.0) (sym is)) (is_in-head x.0 (map (λ y. y.0) xs))
-key-in e (x ∷ xs) (inr t) = is_in-tail e.0 x.0 (map (λ y. y.0) xs) (key-in e xs t)
-
-rise-above : (least next x : ℕ) (xs : List ℕ) → RiseBetween least xs next → IsTrue (is_in x xs) → least ≤ x
-rise-above least next x [] rise t = absurd (is_in-nil x t)
-rise-above least next x (y ∷ ys) rise t = elim (is_in-cases x y ys t) [
-  | inl e ↦ let low = rise.0 in omega (arith, e, low)
-  | inr u ↦ let more = rise-above (y + 1) next x ys rise.1 u in let low = rise.0 in omega (arith, more, low)
-]
-
--- Two lists of entries with the same rising keys are one, where each entry of one is in the other.
-same-entries : (least next : ℕ) (xs ys : List (ℕ × ℕ)) → map (λ e. e.0) xs ≡ map (λ e. e.0) ys → RiseBetween least (map (λ e. e.0) ys) next → All (λ e. In e ys) xs → xs ≡ ys
-same-entries least next [] [] e rise all = refl
-same-entries least next [] (y ∷ ys) e rise all = absurd (let no : ⊥ = cc in no)
-same-entries least next (x ∷ xs) [] e rise all = absurd (let no : ⊥ = cc in no)
-same-entries least next (x ∷ xs) (y ∷ ys) e rise all =
-    let first : x.0 ≡ y.0 = cc in let others : map (λ (z : ℕ × ℕ). z.0) xs ≡ map (λ (z : ℕ × ℕ). z.0) ys = cc in
-    let head : x ≡ y = elim (All-head (λ z. In z (y ∷ ys)) x xs all) [
-      | inl is ↦ is
-      | inr t ↦ absurd (let low = rise-above (y.0 + 1) next x.0 (map (λ z. z.0) ys) rise.1 (key-in x ys t) in let no : ⊥ = omega (arith, low, first) in no)
-    ] in
-    ap₂ (λ (z : ℕ × ℕ) (zs : List (ℕ × ℕ)). z ∷ zs) head (same-entries (y.0 + 1) next xs ys others rise.1 (rest xs (All-tail (λ z. In z (y ∷ ys)) x xs all) (subst (λ (ks : List ℕ). RiseBetween (y.0 + 1) ks next) (sym others) rise.1)))
-  where
-    rest : (zs : List (ℕ × ℕ)) → All (λ z. In z (y ∷ ys)) zs → RiseBetween (y.0 + 1) (map (λ z. z.0) zs) next → All (λ z. In z ys) zs
-    rest [] a r = All-nil (λ z. In z ys)
-    rest (z ∷ zs) a r = All-cons (λ q. In q ys) z zs
-        (elim (All-head (λ q. In q (y ∷ ys)) z zs a) [
-          | inl is ↦ absurd (let low = r.0 in let k : z.0 ≡ y.0 = ap (λ (q : ℕ × ℕ). q.0) is in let no : ⊥ = omega (arith, low, k) in no)
-          | inr t ↦ t
-        ])
-        (rest-below zs (All-tail (λ q. In q (y ∷ ys)) z zs a) (z.0 + 1) (let low = r.0 in omega (arith, low)) r.1)
-      where
-        rest-below : (qs : List (ℕ × ℕ)) → All (λ q. In q (y ∷ ys)) qs → (least : ℕ) → y.0 + 1 ≤ least → RiseBetween least (map (λ q. q.0) qs) next → All (λ q. In q ys) qs
-        rest-below [] a least low r = All-nil (λ q. In q ys)
-        rest-below (q ∷ qs) a least low r = All-cons (λ k. In k ys) q qs
-            (elim (All-head (λ k. In k (y ∷ ys)) q qs a) [
-              | inl is ↦ absurd (let l = r.0 in let k : q.0 ≡ y.0 = ap (λ (j : ℕ × ℕ). j.0) is in let no : ⊥ = omega (arith, low, l, k) in no)
-              | inr t ↦ t
-            ])
-            (rest-below qs (All-tail (λ k. In k (y ∷ ys)) q qs a) (q.0 + 1) (let l = r.0 in omega (arith, low, l)) r.1)
-
-keys-rise : (xs : List (ℕ × ℕ)) → IsNonDecreasingBy (λ e. e.0) xs → IsNonDecreasing (map (λ e. e.0) xs)
-keys-rise xs rising = λ i j d l r.
-    let size = length-map xs (λ (e : ℕ × ℕ). e.0) in
-    let d2 : ℕ × ℕ = (d, d) in
-    let less = rising i j d2 l (omega (arith, r, size)) in
-    let one = get_or-map (λ (e : ℕ × ℕ). e.0) xs i d2 in let two = get_or-map (λ (e : ℕ × ℕ). e.0) xs j d2 in
+-- the keys of a sorted map rise
+ordered-rise : (entries : Table ℕ) → IsStrictlySortedBy nat_cmp (keys_of entries) → KeysRise entries
+ordered-rise entries sorted = λ i j d below within.
+    let size = length-map entries (λ (e : ℕ × ℕ). e.0) in
+    let less = below_from_sorted (keys_of entries) i j d.0 sorted below (omega (arith, within, size)) in
+    let one = get_or-map (λ (e : ℕ × ℕ). e.0) entries i d in let two = get_or-map (λ (e : ℕ × ℕ). e.0) entries j d in
     omega (arith, less, one, two)
 
--- husks that were sorted by their births are those that are listed by rising birth
-pub same_table : (next : ℕ) (listed sorted : Table ℕ) → IsPermutation listed sorted → IsNonDecreasingBy (λ e. e.0) sorted → RiseBetween 1 (map (λ e. e.0) listed) next → 1 ≤ next → sorted ≡ listed
-same_table next listed sorted same rising rise low =
-    let keys : map (λ (e : ℕ × ℕ). e.0) sorted ≡ map (λ (e : ℕ × ℕ). e.0) listed =
-    sorted_births next (map (λ e. e.0) listed) (map (λ e. e.0) sorted) (map (λ e. e.0) listed)
-    (IsPermutation-map (λ (e : ℕ × ℕ). e.0) listed sorted same) (keys-rise sorted rising) (IsPermutation-refl (map (λ (e : ℕ × ℕ). e.0) listed)) rise low in
-    same-entries 1 next sorted listed keys rise (All-permutation (λ e. In e listed) listed sorted same (all-in listed))
+below-apart : (a b : ℕ) → a < b → eq_by_cmp nat_cmp a b ≡ false
+below-apart a b l = unsigned_tied a b ∙ ne_eqb a b (λ e. absurd (let no : ⊥ = omega (arith, e, l) in no))
+
+-- rising keys differ
+rise-distinct : (table : Table ℕ) → KeysRise table → IsDistinct (eq_by_cmp nat_cmp) (keys_of table)
+rise-distinct table rises = IsDistinct-from_apart (eq_by_cmp nat_cmp) (keys_of table) (λ i j d below within.
+    let size = length-map table (λ (e : ℕ × ℕ). e.0) in
+    let less = rises i j (d, d) below (omega (arith, within, size)) in
+    let one = get_or-map (λ (e : ℕ × ℕ). e.0) table i (d, d) in let two = get_or-map (λ (e : ℕ × ℕ). e.0) table j (d, d) in
+    below-apart (get_or (keys_of table) i d) (get_or (keys_of table) j d) (omega (arith, less, one, two)))
+
+-- a look-up by comparing and one by equality find the same
+looked-up : (table : Table ℕ) (q : ℕ) → value_at table q ≡ lookup (is_at (nat_cmp q)) table
+looked-up table q = let tests : nat_eq q ≡ is_at (nat_cmp q) = λ i k. sym (unsigned_tied q k) i in ap (λ (test : ℕ → Bool). lookup test table) tests
+
+-- these entries were put into a map, one after another
+pub record IsFilledWith (made entries : Table ℕ) : Type 0 where
+  pub sorted : IsStrictlySortedBy nat_cmp (keys_of made)
+  pub found : (q : ℕ) → lookup (is_at (nat_cmp q)) made ≡ update_all (eq_by_cmp nat_cmp) (λ _. None) entries q
+
+-- none at first
+pub filled_none : (made : Table ℕ) → IsStrictlySortedBy nat_cmp (keys_of made) → made ≡ [] → IsFilledWith made []
+filled_none made sorted none = record { sorted = sorted; found = λ q. ap (lookup (is_at (nat_cmp q))) none }
+
+-- and one more
+pub filled_next : (blocks : List Extent) (f : Extent → ℕ × ℕ) (i : ℕ) (made after : Table ℕ) (birth words : ℕ) → i < length blocks → IsFilledWith made (map f (take i blocks))
+    → (birth, words) ≡ f (get_or blocks i (0, 0)) → IsStrictlySortedBy nat_cmp (keys_of after)
+    → ((q : ℕ) → lookup (is_at (nat_cmp q)) after ≡ cond (is_at (nat_cmp birth) q) (Some words) (lookup (is_at (nat_cmp q)) made))
+    → IsFilledWith after (map f (take (i + 1) blocks))
+filled_next blocks f i made after birth words l filled is sorted written =
+    let front : Table ℕ = map f (take i blocks) in
+    let entry : ℕ × ℕ = (birth, words) in
+    let whole : map f (take (i + 1) blocks) ≡ front ++ entry ∷ [] =
+    ap (map f) (take_more blocks i (0, 0) l) ∙ (map-append f (take i blocks) (get_or blocks i (0, 0) ∷ []) ∙ ap (λ (e : ℕ × ℕ). front ++ e ∷ []) (sym is)) in
+    subst (IsFilledWith after) (sym whole) (record {
+      sorted = sorted;
+      found = λ q. written q ∙ (ap (cond (is_at (nat_cmp birth) q) (Some words)) (filled.found q)
+          ∙ sym (ap (λ (g : ℕ → Option ℕ). g q) (fold-append (λ (g : ℕ → Option ℕ) (p : ℕ × ℕ). update (eq_by_cmp nat_cmp) g p.0 (Some p.1)) (λ _. None) front (entry ∷ []))));
+    })
+
+-- A map that was filled with these entries is the table that lists them.
+pub filled_table : (made entries : Table ℕ) → IsFilledWith made entries → (listed : Table ℕ) → KeysRise listed → IsPermutation entries listed → made ≡ listed
+filled_table made entries filled listed rises same =
+    let laws = eq_by_cmp_equiv nat_cmp_total in
+    let apart : IsDistinct (eq_by_cmp nat_cmp) (keys_of listed) = rise-distinct listed rises in
+    let turned : IsPermutation (keys_of listed) (keys_of entries) = IsPermutation-sym _ _ (IsPermutation-map (λ (e : ℕ × ℕ). e.0) entries listed same) in
+    let others : IsDistinct (eq_by_cmp nat_cmp) (keys_of entries) = distinct_permutation laws (keys_of listed) (keys_of entries) turned apart in
+    same_table made listed (ordered-rise made filled.sorted) rises (λ q.
+    looked-up made q ∙ (filled.found q ∙ (update_all_none laws (eq_by_cmp nat_cmp) (λ x y. refl) entries q others
+    ∙ (sym (lookup_permutation laws entries listed same apart (eq_by_cmp nat_cmp q) (key-test q)) ∙ sym (looked-up listed q)))))
+  where
+    key-test : (q x y : ℕ) → eq_by_cmp nat_cmp q x ≡ true → eq_by_cmp nat_cmp q y ≡ eq_by_cmp nat_cmp x y
+    key-test q x y e = let same : q ≡ x = eqb-true q x (sym (unsigned_tied q x) ∙ e) in ap (λ (k : ℕ). eq_by_cmp nat_cmp k y) same
+
+-- where the key is not there, all are left
+none-off : (table : Table ℕ) (key : ℕ) → All (λ later. key < later.0) table → filter (λ (h : ℕ × ℕ). not (h.0 == key)) table ≡ table
+none-off [] key below = refl
+none-off (e ∷ table) key below =
+    let first : key < e.0 = All-head (λ later. key < later.0) e table below in
+    grind (arith, nat_tests, none-off table key (All-tail (λ later. key < later.0) e table below))
+
+-- what is left behind an entry that was taken off
+entry-off : (table : Table ℕ) (key : ℕ) → KeysRise table → remove_entry (is_at (nat_cmp key)) table ≡ filter (λ (h : ℕ × ℕ). not (h.0 == key)) table
+entry-off [] key rises = refl
+entry-off (e ∷ table) key rises = elim (cases_eq e.0 key) [
+  | inl is ↦ (let rest = none-off table key (subst (λ (k : ℕ). All (λ (later : ℕ × ℕ). k < later.0) table) is (first_key_below e table rises)) in
+      grind (arith, nat_tests, rest))
+  | inr differ ↦ grind (arith, nat_tests, entry-off table key (KeysRise-tail e table rises))
+]
+
+-- the words of an entry that was taken off, and of those that are left
+words-off : (test : ℕ → Bool) (table : Table ℕ) → husk_words (remove_entry test table) + unwrap_or (lookup test table) 0 ≡ husk_words table
+words-off test [] = refl
+words-off test (e ∷ table) =
+    go (test e.0) refl (words-off test table) (sum_by-cons (λ (h : ℕ × ℕ). h.1) e table) (sum_by-cons (λ (h : ℕ × ℕ). h.1) e (remove_entry test table))
+  where
+    go : (b : Bool) → test e.0 ≡ b → husk_words (remove_entry test table) + unwrap_or (lookup test table) 0 ≡ husk_words table
+        → husk_words (e ∷ table) ≡ e.1 + husk_words table → husk_words (e ∷ remove_entry test table) ≡ e.1 + husk_words (remove_entry test table)
+        → husk_words (remove_entry test (e ∷ table)) + unwrap_or (lookup test (e ∷ table)) 0 ≡ husk_words (e ∷ table)
+    go true is more whole part = rw is (omega (arith, whole))
+    go false is more whole part = rw is (omega (arith, more, whole, part))
+
+-- the first of these births were taken off the husks, which had these words
+pub record AreTaken (start : Table ℕ) (births : List ℕ) (now : Table ℕ) (words : ℕ) : Type 0 where
+  pub left : now ≡ husks_where start (λ x. not (is_in x births))
+  pub counted : words + husk_words now ≡ husk_words start
+
+-- none at first
+pub taken_none : (start : Table ℕ) → AreTaken start [] start 0
+taken_none start = record { left = sym (filter_all (λ (h : ℕ × ℕ). not (is_in h.0 [])) start (λ h. refl)); counted = omega arith }
+
+-- and one more
+pub taken_next : (start : Table ℕ) (births : List ℕ) (i : ℕ) (now after : Table ℕ) (words more : ℕ) → KeysRise start → i < length births → AreTaken start (take i births) now words
+    → after ≡ remove_entry (is_at (nat_cmp (get_or births i 0))) now → more ≡ unwrap_or (lookup (is_at (nat_cmp (get_or births i 0))) now) 0
+    → AreTaken start (take (i + 1) births) after (words + more)
+taken_next start births i now after words more rises l taken left found =
+    let key : ℕ = get_or births i 0 in
+    let first : List ℕ = take i births in
+    let rest : KeysRise now = subst KeysRise (sym taken.left) (KeysRise-entries_where (λ x. not (is_in x first)) start rises) in
+    let fewer : after ≡ husks_where start (λ x. not (is_in x (first ++ key ∷ []))) =
+    left ∙ (entry-off now key rest ∙ (ap (filter (λ (h : ℕ × ℕ). not (h.0 == key))) taken.left
+    ∙ filter-then (λ (h : ℕ × ℕ). not (is_in h.0 first)) (λ h. not (h.0 == key)) (λ h. not (is_in h.0 (first ++ key ∷ []))) start (λ h. both h.0 first key))) in
+    let one = words-off (is_at (nat_cmp key)) now in let same : husk_words after ≡ husk_words (remove_entry (is_at (nat_cmp key)) now) = ap husk_words left in let before = taken.counted in
+    subst (λ (bs : List ℕ). AreTaken start bs after (words + more)) (sym (take_more births i 0 l)) (record { left = fewer; counted = omega (arith, one, same, before, found) })
+  where
+    both : (x : ℕ) (first : List ℕ) (key : ℕ) → (not (is_in x first) && not (x == key)) ≡ not (is_in x (first ++ key ∷ []))
+    both x first key =
+        ap (λ (b : Bool). not (is_in x first) && not b) (nat_eq-turned x key ∙ or-false (key == x))
+        ∙ (both-bool (is_in x first) (is_in x (key ∷ [])) ∙ ap not (sym (list_any-append (λ y. y == x) first (key ∷ []))))
+      where
+        or-false : (b : Bool) → b ≡ (b || false)
+        or-false true = refl
+        or-false false = refl
+
+-- at the end all were
+pub taken_all : {start : Table ℕ} {births : List ℕ} {i : ℕ} {now : Table ℕ} {words : ℕ} → AreTaken start (take i births) now words → length births ≤ i → AreTaken start births now words
+taken_all {start = start} {births = births} {i = i} {now = now} {words = words} taken l = subst (λ (bs : List ℕ). AreTaken start bs now words) (take_all i births l) taken
+
+-- at the end, the words are those of the husks of these births
+pub taken_words : {start : Table ℕ} {births : List ℕ} {now : Table ℕ} {words : ℕ} → AreTaken start births now words → words ≡ freed_words start births
+taken_words {start = start} {births = births} {now = now} {words = words} taken =
+    let split = sum_split (λ (h : ℕ × ℕ). h.1) (λ (h : ℕ × ℕ). is_in h.0 births) start in
+    let same : husk_words now ≡ husk_words (husks_where start (λ x. not (is_in x births))) = ap husk_words taken.left in
+    let whole = taken.counted in omega (arith, split, same, whole)
+
+-- one more is no more than all
+pub taken_fits : (start : Table ℕ) (births : List ℕ) (now : Table ℕ) (words : ℕ) (key : ℕ) → AreTaken start births now words
+    → words + unwrap_or (lookup (is_at (nat_cmp key)) now) 0 ≤ husk_words start
+taken_fits start births now words key taken = let one = words-off (is_at (nat_cmp key)) now in let whole = taken.counted in omega (arith, one, whole)

@@ -1,11 +1,10 @@
 -- A step of sweeping, as the code does it.
-use Rattle.std.proofs.Common.{◌≡◌, ℕ, ◌+◌, ◌<◌, ◌≤◌, Bool, true, false, List, [], ◌∷◌, ◌++◌, map, take, length, get_or, refl, sym, ap, ap₂, ◌∙◌, subst, append_assoc, arith, inl, inr}
+use Rattle.std.proofs.Common.{◌≡◌, ℕ, ◌+◌, ◌<◌, ◌≤◌, Bool, true, false, List, [], ◌∷◌, ◌++◌, map, refl, sym, ap, ap₂, ◌∙◌, subst, append_assoc, arith, inl, inr}
 use Rattle.std.specs.Prelude.{◌-◌, ◌==◌, ◌↔◌, min, nat_lt, not}
 use Rattle.std.specs.List.Sorted.{IsPermutation}
 use Rattle.std.proofs.lemmas.Bool.{cases_lt}
 use Rattle.std.proofs.lemmas.Bool.Decides.{nat_tests}
 use Rattle.std.proofs.lemmas.List.Sorted.{list_any-IsPermutation}
-use Rattle.std.proofs.lemmas.List.Sums.{sum_by_more, sum_by-take-le}
 use Rattle.heap_space.specs.Memory.{Memory}
 use Rattle.old_space.specs.Headers.{StandsWithHeaders}
 use Rattle.old_space.specs.Sweeping.{SweepsLowest, units_left}
@@ -18,7 +17,7 @@ use Rattle.text_model.specs.declared.line.Line.TheVariants.{Stepped, Freed}
 use Rattle.text_model.specs.declared.line.Phase.{Phase}
 use Rattle.text_model.specs.declared.line.Phase.TheVariants.{Sweeping}
 use Rattle.object_model.specs.Sets.{is_in}
-use Rattle.type_table.specs.Table.{Table}
+use Rattle.type_table.specs.Table.{Table, KeysRise}
 use Rattle.store_model.specs.Store.{husk_words}
 use Rattle.store_model.specs.Sweeping.{husks_where}
 use Rattle.heap_parts.specs.Parts.{HeapParts}
@@ -34,12 +33,6 @@ use Rattle.heap_phases.proofs.StepContracts.{sweeps_major}
 pub freed_few : (husks : Table ℕ) (freed : List ℕ) → freed_words husks freed ≤ husk_words husks
 freed_few husks freed = let split = sum_split (λ (h : ℕ × ℕ). h.1) (λ (h : ℕ × ℕ). is_in h.0 freed) husks in omega (arith, split)
 
--- the words so far and those of the next husk are no more than all
-pub next_few : (husks : Table ℕ) (freed : List ℕ) (i words : ℕ) → i < length husks → words ≡ freed_words (take i husks) freed → words + (get_or husks i (0, 0)).1 ≤ husk_words husks
-next_few husks freed i words l e =
-    let some = freed_few (take i husks) freed in let more = sum_by_more (λ (h : ℕ × ℕ). h.1) husks i (0, 0) l in let part = sum_by-take-le (λ (h : ℕ × ℕ). h.1) husks (i + 1) in
-    omega (arith, some, more, part, e)
-
 -- what a sweep asks for
 pub can_sweep : (heap : HeapParts) → CanStep heap → StandsWithHeaders heap.old_blocks heap.memory
 can_sweep heap can = let s = can.collected.stands in record { live = live_of heap can.store s; waiting = s.waiting; has = blocks_headed heap can.store s }
@@ -50,6 +43,10 @@ husks_few heap can =
     let s = can.collected.stands in let high = s.made.ranges.2.2.1 in
     let listed : husk_words can.store.husks ≡ husk_words heap.husk_list = ap husk_words s.husk_list.are in
     (omega (arith, listed, s.sums.old_are), omega (arith, s.sums.within, high))
+
+-- the husks stand by rising birth
+pub husks_rise : (heap : HeapParts) → CanStep heap → KeysRise heap.husk_list
+husks_rise heap can = can.collected.stands.husk_list.rise
 
 -- the parts that the code leaves, where these are the words that were freed, the husks that are left, and the phase
 abbrev pub left_by : HeapParts → Memory → Old → ℕ → Table ℕ → Phase → HeapParts

@@ -154,11 +154,11 @@ twice-bool false true false = refl
 twice-bool false false true = refl
 twice-bool false false false = refl
 
-both-bool : (a b : Bool) → (not a && not b) ≡ not (a || b)
+pub both-bool : (a b : Bool) → (not a && not b) ≡ not (a || b)
 both-bool true b = refl
 both-bool false b = refl
 
-filter-then : {X : Type 0} (f g t : X → Bool) (xs : List X) → ((x : X) → (f x && g x) ≡ t x) → filter g (filter f xs) ≡ filter t xs
+pub filter-then : {X : Type 0} (f g t : X → Bool) (xs : List X) → ((x : X) → (f x && g x) ≡ t x) → filter g (filter f xs) ≡ filter t xs
 filter-then f g t [] same = refl
 filter-then f g t (x ∷ xs) same = go (f x) (g x) refl refl (filter-then f g t xs same)
   where

@@ -1,8 +1,8 @@
 -- The end of marking, a part at a time.
 use Rattle.std.specs.Prelude.{◌≡◌, ℕ, Bool, ◌+◌, ◌↔◌, IsTrue, List, [], ◌++◌, map, filter, not}
-use Rattle.std.specs.List.Sorted.{IsPermutation, IsNonDecreasing, IsNonDecreasingBy}
+use Rattle.std.specs.List.Sorted.{IsPermutation, IsNonDecreasing}
 use Rattle.type_table.specs.declared.info.TypeInfo.{TypeInfo}
-use Rattle.type_table.specs.Table.{Table}
+use Rattle.type_table.specs.Table.{Table, KeysRise}
 use Rattle.heap_space.specs.Places.{has, word_at}
 use Rattle.heap_space.specs.Memory.{Memory}
 use Rattle.heap_space.specs.Extents.{Extent, Each, KeepsWords, KeepsOutside}
@@ -91,10 +91,9 @@ pub record AreDestroyed (types : Table TypeInfo) (m : Memory) (blocks : List Ext
   pub just : IsPermutation (map (birth_in m) (filter (is_destroyed types m) blocks)) births
   pub rising : IsNonDecreasing births
 
--- the births of the objects in blocks with their words, by rising birth
+-- the births of the objects in blocks with their words, listed by rising birth, where no birth is that of two objects
 pub record AreHusks (m : Memory) (blocks : List Extent) (husks : Table ℕ) : Type 0 where
-  pub just : IsPermutation (map (husk_of m) blocks) husks
-  pub rising : IsNonDecreasingBy (λ husk. husk.0) husks
+  pub are : (listed : Table ℕ) → KeysRise listed → IsPermutation (map (husk_of m) blocks) listed → husks ≡ listed
 
 -- the heap where these places are of no object any more
 abbrev pub without_places : HeapParts → List ℕ → HeapParts

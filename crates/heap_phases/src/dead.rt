@@ -6,13 +6,14 @@ ghost use Rattle.size_pages.specs.Sweeping.{is_dead as is_dead_word};
 ghost use Rattle.old_space.specs.Headers.{HasHeaders, StandsWithHeaders};
 ghost use Rattle.object_model.specs.ObjectWords.{info_at};
 ghost use Rattle.object_view.specs.Views.{HasObject};
-ghost use Rattle.heap_phases.specs.Ending.{AreDead, AreReadable, HoldObjects, AreDestroyed, AreHusks, places_in, birth_in, husk_of, is_destroyed, is_dead_in};
+ghost use Rattle.heap_phases.specs.Ending.{AreDead, AreReadable, HoldObjects, AreDestroyed, AreHusks, places_in, birth_in, is_destroyed, is_dead_in};
 
 use heap_space::Space;
 use object_header::{Flag, is_set};
 use object_view::view;
 use old_space::Old;
 use std::alloc::AllocError;
+use std::collections::BTreeMap;
 use type_table::TypeTable;
 
 /// Lists the live blocks of condemned objects by rising place: those whose first word has neither the flag Visited nor the
@@ -119,38 +120,19 @@ fn has_destructor(space: &Space, types: &TypeTable, place: u64) -> bool
     types.get(v.type_id).unwrap().destructor
 }
 
-/// Lists the births of the objects in the blocks with their words, by rising birth.
+/// Makes the husks those of these blocks: the words of each, by the birth of its object.
 pub(crate) fn list_husks(
     space: &Space,
     types: &TypeTable,
     blocks: &[(u64, u64)],
-    husks: &mut Vec<(u64, u64)>,
+    husks: &mut BTreeMap<u64, u64>,
 ) -> Result<(), AllocError>
     requires { HoldObjects space.now types.now blocks.now }
-    ensures { OnOk result (AreHusks space.now blocks.now husks.new.items) }
+    ensures { OnOk result (AreHusks space.now blocks.now husks.new.entries) }
 {
     husks.clear();
-    append_husks(space, types, blocks, husks)?;
-    husks.sort_unstable_by_key(
-        |husk: &(u64, u64)| -> u64
-            ensures { result ≡ husk.now.0 }
-        { husk.0 },
-    );
-    Ok(())
-}
-
-/// Appends the births of the objects in the blocks with their words.
-fn append_husks(
-    space: &Space,
-    types: &TypeTable,
-    blocks: &[(u64, u64)],
-    husks: &mut Vec<(u64, u64)>,
-) -> Result<(), AllocError>
-    requires { HoldObjects space.now types.now blocks.now }
-    ensures { OnOk result (husks.new.items ≡ husks.old.items ++ map (husk_of space.now) blocks.now) }
-{
     for block in blocks {
-        husks.push((birth_at(space, types, block.0), block.1))?;
+        husks.insert(birth_at(space, types, block.0), block.1)?;
     }
     Ok(())
 }

@@ -1,6 +1,6 @@
 //! A step of sweeping.
 ghost use Rattle.std.specs.Prelude.{◌≡◌, ◌<◌, ◌^◌, not, OnOk, IfOk};
-ghost use Rattle.std.specs.List.Sorted.{IsNonDecreasing};
+ghost use Rattle.type_table.specs.Table.{KeysRise};
 ghost use Rattle.object_model.specs.Sets.{is_in};
 ghost use Rattle.text_model.specs.declared.line.Phase.TheVariants.{Sweeping};
 ghost use Rattle.store_model.specs.Store.{husk_words};
@@ -14,6 +14,7 @@ use crate::StepEnd;
 use crate::telling::tell_freed;
 use heap_parts::Parts;
 use std::alloc::AllocError;
+use std::collections::BTreeMap;
 use sweep_steps::{SweepState, sweep};
 use text_model::{Line, Phase};
 
@@ -58,42 +59,16 @@ fn phase_after(state: SweepState) -> Phase
     }
 }
 
-/// Takes the husks of these births, which stand in rising order, off the list, and tells their words.
-fn drop_husks(husks: &mut Vec<(u64, u64)>, freed: &[u64]) -> u64
-    requires rising { IsNonDecreasing freed.now }
-    requires fits { husk_words husks.old.items < 2 ^ 64 }
-    ensures words { result ≡ freed_words husks.old.items freed.now }
-    ensures left { husks.new.items ≡ husks_where husks.old.items (λ x. not (is_in x freed.now)) }
-{
-    let words = words_freed(husks, freed);
-    husks.retain(
-        |husk: &(u64, u64)| -> bool
-            requires { IsNonDecreasing freed.now }
-            ensures { result ≡ not (is_in husk.now.0 freed.entry.now) }
-        { !holds(freed, husk.0) },
-    );
-    words
-}
-
-/// The words of the husks of these births.
-fn words_freed(husks: &[(u64, u64)], freed: &[u64]) -> u64
-    requires rising { IsNonDecreasing freed.now }
-    requires fits { husk_words husks.now < 2 ^ 64 }
-    ensures { result ≡ freed_words husks.now freed.now }
+/// Takes the husks of these births off, and tells their words.
+fn drop_husks(husks: &mut BTreeMap<u64, u64>, freed: &[u64]) -> u64
+    requires rise { KeysRise husks.old.entries }
+    requires fits { husk_words husks.old.entries < 2 ^ 64 }
+    ensures words { result ≡ freed_words husks.old.entries freed.now }
+    ensures left { husks.new.entries ≡ husks_where husks.old.entries (λ x. not (is_in x freed.now)) }
 {
     let mut words = 0;
-    for husk in husks {
-        if holds(freed, husk.0) {
-            words += husk.1;
-        }
+    for birth in freed {
+        words += husks.remove(birth).unwrap_or(0);
     }
     words
-}
-
-/// Whether a list in rising order holds the number.
-fn holds(numbers: &[u64], number: u64) -> bool
-    requires { IsNonDecreasing numbers.now }
-    ensures { result ≡ is_in number numbers.now }
-{
-    numbers.binary_search(&number).is_ok()
 }

@@ -25,7 +25,7 @@ returns c =
         gray = c.in_ok-shadows.ensures.gray i;
         slots = c.in_ok-slots.ensures.slots i;
         pins = c.in_ok-slots.ensures.pins i;
-        husk_list = c.new.ensures.items i;
+        husk_list = c.new.ensures.empty i;
       };
       empty = c.in_ok-space.ensures.empty;
       small = c.in_ok-space.ensures.small;
