@@ -1,7 +1,7 @@
 //! The three areas of places: the nursery from place 1 on, the arenas side by side from 2^32 on,
 //! and the large blocks from 2^40 on, each where the one added before it ended. A large block that
 //! was given back stays in its list without words, until the list is compacted.
-ghost use Rattle.std.specs.Prelude.{◌≡◌, ℕ, ◌+◌, ◌*◌, ◌^◌, ◌<◌, ◌≤◌, ◌⊎◌, List, [], ◌∷◌, ◌++◌, length, replicate, slice_index_or, nat_le, IfOk, IfErr, IsTrue};
+ghost use Rattle.std.specs.Prelude.{◌≡◌, ℕ, ◌+◌, ◌*◌, ◌^◌, ◌<◌, ◌≤◌, List, [], ◌∷◌, ◌++◌, length, replicate, slice_index_or, nat_le, IfOk, IfErr, IsTrue};
 ghost use Rattle.heap_space.specs.Places.{Placed, covers, has, word_at, with_word, is_base, lies_in_one, run_at, with_run};
 ghost use Rattle.heap_space.specs.Memory.{fresh_memory, with_arena, with_large};
 ghost use Rattle.heap_space.specs.Order.{IsInOrder};
@@ -150,21 +150,52 @@ impl Areas {
         self.set_word(seat, v);
     }
 
-    /// Copies the n words from `from` on to the places from `to` on, and every other word stays.
+    /// Copies n words to the places from `to` on. All are read as they were before.
     pub(crate) fn copy_words(&mut self, from: u64, to: u64, n: u64)
         requires source { IsTrue (lies_in_one self.old.blocks from n) }
         requires target { IsTrue (lies_in_one self.old.blocks to n) }
-        requires apart { (from + n ≤ to) ⊎ (to + n ≤ from) }
         ensures { self.new ≡ record self.old { blocks = with_run self.old.blocks to (run_at self.old.blocks from n) } }
     {
         if n == 0 {
             return;
         }
+        if to <= from {
+            self.copy_first_on(from, to, n);
+        } else {
+            self.copy_last_back(from, to, n);
+        }
+    }
+
+    // Copies n words to places that are not behind theirs, the first word first.
+    fn copy_first_on(&mut self, from: u64, to: u64, n: u64)
+        requires some { 0 < n }
+        requires source { IsTrue (lies_in_one self.old.blocks from n) }
+        requires target { IsTrue (lies_in_one self.old.blocks to n) }
+        requires order { to ≤ from }
+        ensures { self.new ≡ record self.old { blocks = with_run self.old.blocks to (run_at self.old.blocks from n) } }
+    {
         let source = self.run_seat(from, n);
         let target = self.run_seat(to, n);
         for k in 0..n {
             let word = self.word(source.after(k));
             self.set_word(target.after(k), word);
+        }
+    }
+
+    // Copies n words to places that are not before theirs, the last word first.
+    fn copy_last_back(&mut self, from: u64, to: u64, n: u64)
+        requires some { 0 < n }
+        requires source { IsTrue (lies_in_one self.old.blocks from n) }
+        requires target { IsTrue (lies_in_one self.old.blocks to n) }
+        requires order { from ≤ to }
+        ensures { self.new ≡ record self.old { blocks = with_run self.old.blocks to (run_at self.old.blocks from n) } }
+    {
+        let source = self.run_seat(from, n);
+        let target = self.run_seat(to, n);
+        for step in 0..n {
+            let last = n - 1 - step;
+            let word = self.word(source.after(last));
+            self.set_word(target.after(last), word);
         }
     }
 

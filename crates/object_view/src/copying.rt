@@ -1,7 +1,7 @@
 //! References copied from one object to another, or within one.
 
-ghost use Rattle.std.specs.Prelude.{◌≡◌, ◌+◌, ◌^◌, ◌<◌, ◌≤◌, IsTrue};
-ghost use Rattle.heap_space.specs.Places.{lies_in_one, run_at, with_run};
+ghost use Rattle.std.specs.Prelude.{◌≡◌, ◌+◌, ◌≤◌};
+ghost use Rattle.heap_space.specs.Places.{run_at, with_run};
 ghost use Rattle.object_view.specs.Views.{HasView};
 
 use crate::fields::ObjView;
@@ -26,40 +26,5 @@ pub fn move_refs(
     requires source_items { j + n ≤ from.ref_count }
     ensures { space.new ≡ record space.old { blocks = with_run space.old.blocks (to.ref_start + i) (run_at space.old.blocks (from.ref_start + j) n) } }
 {
-    let source = from.ref_start + j;
-    let target = to.ref_start + i;
-    if target <= source {
-        copy_first_on(space, source, target, n);
-    } else {
-        copy_last_back(space, source, target, n);
-    }
-}
-
-// Copies n words to places that are not behind theirs, the first word first.
-fn copy_first_on(space: &mut Space, source: u64, target: u64, n: u64)
-    requires source_lies { IsTrue (lies_in_one space.old.blocks source n) }
-    requires target_lies { IsTrue (lies_in_one space.old.blocks target n) }
-    requires order { target ≤ source }
-    requires fits { source + n < 2 ^ 64 }
-    ensures { space.new ≡ record space.old { blocks = with_run space.old.blocks target (run_at space.old.blocks source n) } }
-{
-    for k in 0..n {
-        let word = space.read(source + k);
-        space.write(target + k, word);
-    }
-}
-
-// Copies n words to places that are not before theirs, the last word first.
-fn copy_last_back(space: &mut Space, source: u64, target: u64, n: u64)
-    requires source_lies { IsTrue (lies_in_one space.old.blocks source n) }
-    requires target_lies { IsTrue (lies_in_one space.old.blocks target n) }
-    requires order { source ≤ target }
-    requires fits { target + n < 2 ^ 64 }
-    ensures { space.new ≡ record space.old { blocks = with_run space.old.blocks target (run_at space.old.blocks source n) } }
-{
-    for step in 0..n {
-        let k = n - 1 - step;
-        let word = space.read(source + k);
-        space.write(target + k, word);
-    }
+    space.copy_words(from.ref_start + j, to.ref_start + i, n);
 }
