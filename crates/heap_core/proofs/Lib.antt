@@ -30,3 +30,4 @@ pub mod WordCalls
 pub mod RoomCalls
 pub mod RoomBirths
 pub mod CollectingCalls
+pub mod TestCollections

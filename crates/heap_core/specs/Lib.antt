@@ -8,3 +8,4 @@ pub mod HeapBirths
 pub mod Pinning
 pub mod Telling
 pub mod TestStores
+pub mod TestCollections

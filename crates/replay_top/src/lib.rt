@@ -11,3 +11,5 @@ pub use top::{Status, run};
 
 #[cfg(test)]
 mod tests;
+#[cfg(test)]
+mod tests_collections;

@@ -27,7 +27,11 @@ struct Outcome {
 }
 
 /// The one file `s` with these bytes, where these calls fail.
-fn files_of(alloc: Global, script: &[u8], fails: &[u64]) -> Result<MemFiles, AllocError> {
+pub(crate) fn files_of(
+    alloc: Global,
+    script: &[u8],
+    fails: &[u64],
+) -> Result<MemFiles, AllocError> {
     let mut named = Vec::new(alloc);
     named.push(NamedFile {
         name: Vec::from_slice(alloc, b"s")?,
@@ -37,7 +41,7 @@ fn files_of(alloc: Global, script: &[u8], fails: &[u64]) -> Result<MemFiles, All
 }
 
 /// Words as texts of their own.
-fn texts_of(alloc: Global, words: &[&str]) -> Result<Vec<String>, AllocError> {
+pub(crate) fn texts_of(alloc: Global, words: &[&str]) -> Result<Vec<String>, AllocError> {
     let mut texts = Vec::new(alloc);
     for word in words {
         texts.push(String::from_str(alloc, word)?)?;
@@ -46,7 +50,7 @@ fn texts_of(alloc: Global, words: &[&str]) -> Result<Vec<String>, AllocError> {
 }
 
 /// Runs the program over a heap of its own.
-fn status_of(
+pub(crate) fn status_of(
     alloc: Global,
     words: &[String],
     files: &mut MemFiles,
