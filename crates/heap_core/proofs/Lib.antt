@@ -31,3 +31,4 @@ pub mod RoomCalls
 pub mod RoomBirths
 pub mod CollectingCalls
 pub mod RetainedCalls
+pub mod TestCollections

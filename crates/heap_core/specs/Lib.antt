@@ -9,3 +9,4 @@ pub mod Pinning
 pub mod Telling
 pub mod TestStores
 pub mod Retained
+pub mod TestCollections

@@ -15,6 +15,8 @@ mod structures;
 mod tellers;
 #[cfg(test)]
 mod tests;
+#[cfg(test)]
+mod tests_collections;
 mod usage;
 mod weak;
 

@@ -5,3 +5,4 @@ pub mod RunEnds
 pub mod RunsOn
 pub mod UnitEnds
 pub mod Words
+pub mod TestSessions

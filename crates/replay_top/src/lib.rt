@@ -10,6 +10,8 @@ mod top;
 pub use top::{Status, run};
 
 #[cfg(test)]
-mod fault_tests;
-#[cfg(test)]
 mod tests;
+#[cfg(test)]
+mod tests_collections;
+#[cfg(test)]
+mod tests_faults;

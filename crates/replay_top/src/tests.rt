@@ -26,14 +26,25 @@ pub(crate) struct Outcome {
     pub(crate) err: Vec<u8>,
 }
 
-/// Which calls of the files and of the two streams fail, counted from 1, and how many bytes a read gives at most.
+/// Which calls of the files and of the two streams fail, counted from 1, how many bytes a read gives at most, and how many bytes the
+/// output takes.
 #[derive(Clone, Copy)]
 pub(crate) struct Machine {
     pub(crate) read_fails: &'static [u64],
     pub(crate) write_fails: &'static [u64],
     pub(crate) tell_fails: &'static [u64],
     pub(crate) most: usize,
+    pub(crate) room: usize,
 }
+
+/// Nothing fails.
+pub(crate) const SURE: Machine = Machine {
+    read_fails: &[],
+    write_fails: &[],
+    tell_fails: &[],
+    most: 4096,
+    room: 10_000,
+};
 
 /// The one file `s` with these bytes.
 fn files_of(alloc: Global, script: Vec<u8>, machine: Machine) -> Result<MemFiles, AllocError> {
@@ -82,8 +93,7 @@ fn answered(
     let machine = Machine {
         read_fails,
         write_fails,
-        tell_fails: &[],
-        most: 4096,
+        ..SURE
     };
     run_over(alloc, words, Vec::from_slice(alloc, script)?, machine)
 }
@@ -97,7 +107,7 @@ pub(crate) fn run_over(
 ) -> Result<Outcome, AllocError> {
     let texts = texts_of(alloc, words)?;
     let mut files = files_of(alloc, script, machine)?;
-    let mut out = MemSink::new(alloc, 10_000, Vec::from_slice(alloc, machine.write_fails)?)?;
+    let mut out = MemSink::new(alloc, machine.room, Vec::from_slice(alloc, machine.write_fails)?)?;
     let mut err = MemSink::new(alloc, 1000, Vec::from_slice(alloc, machine.tell_fails)?)?;
     let status = status_of(alloc, &texts, &mut files, &mut out, &mut err);
     Ok(Outcome {

@@ -1,7 +1,7 @@
 //! Faults of the files and of the streams at each of their calls, and files that come a byte at a time.
 
 use crate::Status;
-use crate::tests::{Machine, run_over};
+use crate::tests::{Machine, SURE, run_over};
 use std::test::Fail;
 
 /// A script, which calls fail, and how `replay s` ends on it.
@@ -12,14 +12,6 @@ struct Fault {
     err: &'static [u8],
     status: Status,
 }
-
-/// Nothing fails.
-const SURE: Machine = Machine {
-    read_fails: &[],
-    write_fails: &[],
-    tell_fails: &[],
-    most: 4096,
-};
 
 /// A reference that is seen by the write barrier alone, over two minor collections. It prints six lines.
 const WRITTEN: &[u8] = b"type 1 fixed 1 1\nnew 0 1\nminor\nnew 1 1\nput 1 0 7\nlink 0 0 1\ndrop 1\nminor\nload 1 0 0\nget 1 0\n";
