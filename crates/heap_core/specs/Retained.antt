@@ -16,7 +16,8 @@ use Rattle.heap_core.specs.Commands.{OfParts}
 pub record HeapUndergoes (Event : EventOf) (old new : HeapSeen) (before after : List Line) : Type 0 where
   pub lines : List Line
   pub appended : after ≡ before ++ lines
-  pub leads : (store : Store) → StandsFor old store → (later : Store) × OfParts old.parts (λ parts. Event parts.setup store lines later) × StandsFor new later
+  pub leads : (store : Store) → StandsFor old store → (later : Store)
+      × OfParts old.parts (λ parts. Event parts.setup store lines later) × StandsFor new later
 
 -- a whole collection, which leaves just what was retained, in at most so many steps
 abbrev pub CollectingWhole : EventOf

@@ -27,4 +27,6 @@ returns-in-Started-clause-cause c =
 
 pub returns-in-Started-clause-retained : goal.returns-in-Started-clause-retained
 returns-in-Started-clause-retained c =
-    leaves_retained c.args.self.now c.end.new.self c.args.out.now.items c.collect_all-ended.new.out.items c.end.result (returns-in-Started-clause-performs c)
+    leaves_retained c.args.self.now c.end.new.self c.args.out.now.items c.collect_all-ended.new.out.items c.end.result
+    (collected c.args.self.now c.end.new.self c.in-Started.parts c.collect_all-ended.new.parts Collect c.args.out.now.items c.collect_all-ended.new.out.items c.collect_all-ended.result c.end.result
+    (in_state c.args.self.now c.self.inside.state (Started c.in-Started.parts) c.self.view_is c.in-Started.is) c.collect_all-ended.ensures.does c.collect_all-ended.ensures.err_out c.end.ensures).performs

@@ -12,4 +12,6 @@ returns-in-Started-clause-answers c =
 
 pub returns-in-Started-clause-retained : goal.returns-in-Started-clause-retained
 returns-in-Started-clause-retained c =
-    array_retains c.args.self.now c.end_birth.new.self c.args.out.now.items c.bear_array-ended.new.out.items c.args.root c.args.type_id c.args.len c.end_birth.result (returns-in-Started-clause-answers c)
+    array_retains c.args.self.now c.end_birth.new.self c.args.out.now.items c.bear_array-ended.new.out.items c.args.root c.args.type_id c.args.len c.end_birth.result
+    (answers_birth c.args.self.now c.end_birth.new.self c.in-Started.parts c.bear_array-ended.new.parts (NewArray c.args.root c.args.type_id c.args.len) c.args.out.now.items c.bear_array-ended.new.out.items
+    c.bear_array-ended.result c.end_birth.result (in_state c.args.self.now c.self.inside.state (Started c.in-Started.parts) c.self.view_is c.in-Started.is) c.bear_array-ended.ensures c.end_birth.ensures)

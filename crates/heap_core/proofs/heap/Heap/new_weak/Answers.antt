@@ -12,4 +12,6 @@ returns-in-Started-clause-answers c =
 
 pub returns-in-Started-clause-retained : goal.returns-in-Started-clause-retained
 returns-in-Started-clause-retained c =
-    weak_retains c.args.self.now c.end_birth.new.self c.args.out.now.items c.bear_weak-ended.new.out.items c.args.root c.args.type_id c.args.target c.end_birth.result (returns-in-Started-clause-answers c)
+    weak_retains c.args.self.now c.end_birth.new.self c.args.out.now.items c.bear_weak-ended.new.out.items c.args.root c.args.type_id c.args.target c.end_birth.result
+    (answers_birth c.args.self.now c.end_birth.new.self c.in-Started.parts c.bear_weak-ended.new.parts (NewWeak c.args.root c.args.type_id c.args.target) c.args.out.now.items c.bear_weak-ended.new.out.items
+    c.bear_weak-ended.result c.end_birth.result (in_state c.args.self.now c.self.inside.state (Started c.in-Started.parts) c.self.view_is c.in-Started.is) c.bear_weak-ended.ensures c.end_birth.ensures)
