@@ -38,7 +38,7 @@ use Rattle.minor_collect.specs.Gray.{QueuesWritten}
 use Rattle.minor_collect.specs.Homes.{GivesHomes}
 use Rattle.minor_collect.specs.Lines.{TellsLoss}
 use Rattle.minor_collect.specs.Midway.{Midway, Changing, with_changing, changing_of, is_lasting}
-use Rattle.minor_collect.specs.Queues.{Queues, visited_places}
+use Rattle.minor_collect.specs.Queues.{Queues}
 use Rattle.minor_collect.specs.Remade.{Remakes, words_of}
 use Rattle.minor_collect.specs.Spans.{TookAll}
 use Rattle.minor_collect.specs.Vanished.{FindsVanished}
@@ -75,7 +75,7 @@ pub record QueuesSome (stage : Stage) (now : HeapParts) (spot : Spot) (gray : Li
 module _ {stage : Stage} {moved queued dropped remade taken : HeapParts} {moving : Moving} {spans : List Span} {dead destroyed cleared : List ℕ}
     (young : YoungHeld stage.store.kept stage.store.settled (remembered_at stage))
     (took : TookAll stage.start taken spans) (s : Survived stage moved moving) (found : FindsVanished stage s.after moved dead destroyed)
-    (marks : moved.phase ≡ Marking → Queues moved queued (visited_places moved spans)) (quiet : (moved.phase ≡ Marking → ⊥) → queued ≡ moved)
+    (marks : moved.phase ≡ Marking → Queues moved queued spans) (quiet : (moved.phase ≡ Marking → ⊥) → queued ≡ moved)
     (d : Drops queued dropped dead [] cleared) (r : Remakes dropped remade) where
   weaks : moved.weaks ≡ stage.start.weaks
   weaks = ap (λ (h : HeapParts). h.weaks) s.only
@@ -107,8 +107,8 @@ module _ {stage : Stage} {moved queued dropped remade taken : HeapParts} {moving
   queues-some : QueuesSome stage moved s.after queued.gray
   queues-some = elim (is-marking moved.phase) [
     | inl e ↦
-        let q : Queues (with_changing stage.start (changing_of moved)) queued (visited_places (with_changing stage.start (changing_of moved)) spans) =
-        subst (λ (h : HeapParts). Queues h queued (visited_places h spans)) s.standing.middle.rest (marks e) in
+        let q : Queues (with_changing stage.start (changing_of moved)) queued spans =
+        subst (λ (h : HeapParts). Queues h queued spans) s.standing.middle.rest (marks e) in
         record { written = _; queues = queues_written stage.stands young mid_now s.none old-few took.covered (λ k span is. (took.sound k span is).0) (sym phase-same ∙ e) q }
     | inr e ↦
         let none : stage.store.visited ≡ [] = none-visited stage.start.phase stage.start.setup.settings.sweep stage.store

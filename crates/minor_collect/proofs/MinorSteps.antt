@@ -1,19 +1,19 @@
 -- The steps of a minor collection, one behind another: what each leaves is what the next asks for.
-use Rattle.std.proofs.Common.{◌≡◌, ◌≢◌, ℕ, suc, ◌+◌, ◌<◌, ◌≤◌, ◌⊎◌, Bool, true, false, IsTrue, List, [], ◌∷◌, ◌++◌, append_assoc, map, filter, Option, Some, slice_get, refl, sym, ap, ◌∙◌, subst, inl, inr, arith}
-use Rattle.std.specs.Prelude.{sum_by, ◌^◌}
-use Rattle.std.proofs.lemmas.Bool.{cases_Bool}
-use Rattle.heap_space.specs.Places.{has, word_at}
+use Rattle.std.proofs.Common.{◌≡◌, ◌≢◌, ℕ, suc, ◌+◌, ◌<◌, ◌≤◌, ◌⊎◌, Bool, true, false, IsTrue, List, [], ◌∷◌, ◌++◌, append_assoc, map, Option, Some, slice_get, refl, sym, ap, ◌∙◌, subst, inl, inr, arith}
+use Rattle.std.specs.Prelude.{sum_by, ◌^◌, ◌==◌, ◌||◌}
+use Rattle.std.specs.List.{list_any}
+use Rattle.std.proofs.lemmas.Bool.{ne_eqb}
+use Rattle.std.proofs.lemmas.Bool.Decides.{eqb_tells}
+use Rattle.heap_space.specs.Places.{word_at}
 use Rattle.text_model.specs.declared.line.Line.{Line}
 use Rattle.text_model.specs.declared.line.Line.TheVariants.{MinorDone, Cleared, Destroyed, LinkCut}
 use Rattle.text_model.specs.declared.line.LinkEnd.{LinkEnd}
 use Rattle.text_model.specs.declared.line.Phase.{Phase}
 use Rattle.text_model.specs.declared.line.Phase.TheVariants.{Scanning, Marking, Sweeping, Finalizing}
 use Rattle.object_view.proofs.LayoutLaws.{laid_out}
-use Rattle.object_view.proofs.SpaceLaws.{lies-at}
 use Rattle.object_view.specs.Views.{HasObject}
 use Rattle.object_model.specs.ObjectWords.{layout_at}
 use Rattle.object_model.specs.Sets.{is_in}
-use Rattle.object_model.proofs.Members.{is_in-cases, is_in-nil}
 use Rattle.remember_cards.specs.declared.Span.{Span}
 use Rattle.heap_parts.specs.Parts.{HeapParts, word_in}
 use Rattle.store_model.specs.Store.{Store}
@@ -24,9 +24,9 @@ use Rattle.minor_collect.specs.declared.work.Moving.{Moving}
 use Rattle.minor_collect.specs.Calls.{Stage, Spot, Middle, Survived, CanBegin}
 use Rattle.minor_collect.specs.Drops.{CanGiveThen, Drops}
 use Rattle.minor_collect.specs.Minor.{CanCollect, Took, MovesSurvivors, Separates}
-use Rattle.minor_collect.specs.Queues.{CanQueue, CanQueueSpans, CanLookAt, Queues, visited_places}
+use Rattle.minor_collect.specs.Queues.{CanQueue, CanQueueSpans, CanLookAt, Queues}
 use Rattle.minor_collect.specs.Remade.{CanRemake}
-use Rattle.minor_collect.specs.Spans.{TookAll, is_visited_span}
+use Rattle.minor_collect.specs.Spans.{TookAll}
 use Rattle.minor_collect.specs.Vanished.{IsMidway, FindsVanished}
 use Rattle.minor_collect.specs.WeakPass.{CanPassWeaks}
 use Rattle.minor_collect.proofs.CountLaws.{words_moved}
@@ -38,16 +38,17 @@ use Rattle.minor_collect.proofs.StartedCollects.{stands_whole}
 use Rattle.minor_collect.proofs.StillLaws.{can_read}
 use Rattle.minor_collect.proofs.TraceEnds.{stage_of}
 
--- a span of those that pass a test is one of all
-spanned-at : (test : Span → Bool) (spans : List Span) (q : ℕ) → IsTrue (is_in q (map (λ (s : Span). s.a) (filter test spans))) → AtNumber Span spans (λ s. s.a) q
-spanned-at test [] q t = absurd (is_in-nil q t)
-spanned-at test (s ∷ spans) q t = elim (cases_Bool (test s)) [
-  | inl e ↦ elim (is_in-cases q s.a (map (λ (s2 : Span). s2.a) (filter test spans)) (rw e at t)) [
-    | inl same ↦ record { number = 0; entry = s; is = refl; reads = sym same }
-    | inr u ↦ let more = spanned-at test spans q u in record { number = suc more.number; entry = more.entry; is = more.is; reads = more.reads }
-  ]
-  | inr e ↦ let more = spanned-at test spans q (rw e at t) in record { number = suc more.number; entry = more.entry; is = more.is; reads = more.reads }
+-- an object that has a span has one of them
+spanned-at : (spans : List Span) (q : ℕ) → IsTrue (list_any (λ (s : Span). q == s.a) spans) → AtNumber Span spans (λ s. s.a) q
+spanned-at [] q t = absurd (let no : ⊥ = cc in no)
+spanned-at (s ∷ spans) q t = elim (eqb_tells q s.a) [
+  | inl e ↦ record { number = 0; entry = s; is = refl; reads = sym e.1 }
+  | inr e ↦ let more = spanned-at spans q (later (q == s.a) (list_any (λ (s2 : Span). q == s2.a) spans) (ne_eqb q s.a e.1) t) in record { number = suc more.number; entry = more.entry; is = more.is; reads = more.reads }
 ]
+  where
+    later : (a b : Bool) → a ≡ false → IsTrue (a || b) → IsTrue b
+    later true b n u = absurd (let no : ⊥ = cc in no)
+    later false b n u = u
 
 module _ {stage : Stage} {moved : HeapParts} {moving : Moving} (s : Survived stage moved moving) where
   abbrev spot : Spot
@@ -56,23 +57,15 @@ module _ {stage : Stage} {moved : HeapParts} {moving : Moving} (s : Survived sta
   middle : Middle stage moved s.after []
   middle = s.standing.middle
 
-  has-old : (p : ℕ) → IsTrue (is_in p s.after.placing.places) → IsTrue (has moved.memory.blocks p)
-  has-old p t =
-      let size = (laid_out stage.start.setup.types (word_at moved.memory.blocks) p).header in
-      lies-at moved.memory.blocks p _ p (middle.mid.words.whole p t).whole (omega arith) (omega (arith, size))
-
   queued : (q : ℕ) → IsTrue (is_in q s.after.placing.places) → CanQueue moved q
   queued q t = subst (λ (h : HeapParts). HasObject moved.memory h.setup.types q → ((j : ℕ) → j < (layout_at h.setup.types (word_in moved) q).ref_count → CanLookAt moved (word_in moved ((layout_at h.setup.types (word_in moved) q).ref_start + j))) → CanQueue moved q)
       middle.rest (λ object leads. record { object = object; leads = leads }) (middle.mid.words.whole q t) (λ j l ne o.
       let laid = laid_out stage.start.setup.types (word_at moved.memory.blocks) q in
       (can_read middle _ (middle.mid.words.objects.closed q j t (omega (arith, l, laid.refs))) ne).0)
 
-  -- what was taken can be looked at, and so can the references of what marking visited
+  -- the references of what was taken can be looked at
   pub can_queue_spans : {taken : HeapParts} {spans : List Span} → TookAll stage.start taken spans → CanQueueSpans moved spans
-  can_queue_spans {spans = spans} t = record {
-    there = λ k span e. has-old span.a (there k span e);
-    visited = λ q u. let n = spanned-at (is_visited_span moved) spans q u in queued q (subst (λ (p : ℕ). IsTrue (is_in p s.after.placing.places)) n.reads (there n.number n.entry n.is));
-  }
+  can_queue_spans {spans = spans} t q u = let n = spanned-at spans q u in queued q (subst (λ (p : ℕ). IsTrue (is_in p s.after.placing.places)) n.reads (there n.number n.entry n.is))
     where
       there : (k : ℕ) (span : Span) → slice_get spans k ≡ Some span → IsTrue (is_in span.a s.after.placing.places)
       there k span e = (old-is_in s.after.placing.places span.a (old_stays span.a s.grows (stage.stands.remembered.there span.a (t.sound k span e).0))).0

@@ -1,5 +1,6 @@
 -- What the code queues for marking, of spans that cover all that was remembered, is what the end of a collection asks for.
 use Rattle.std.proofs.Common.{◌≡◌, ◌≢◌, ℕ, zero, suc, ◌+◌, ◌<◌, ◌⊎◌, Bool, true, false, IsTrue, List, [], ◌∷◌, map, filter, Option, Some, slice_get, refl, sym, ap, ◌∙◌, subst, inl, inr, arith}
+use Rattle.std.specs.List.{list_any}
 use Rattle.std.proofs.lemmas.Bool.{ne_eqb}
 use Rattle.heap_space.specs.Places.{word_at}
 use Rattle.object_header.specs.Words.{has_flag}
@@ -10,7 +11,7 @@ use Rattle.object_model.specs.Fields.{refs_of}
 use Rattle.object_model.specs.Object.{Object}
 use Rattle.object_model.specs.ObjectWords.{renamed, layout_at, object_from, words_at}
 use Rattle.object_model.specs.Sets.{is_in}
-use Rattle.object_model.proofs.Members.{is_in-head, is_in-tail, is_in-cases, is_in-nil, map-same, filter-part, filter-member, or_cases}
+use Rattle.object_model.proofs.Members.{is_in-nil, map-same, filter-part, filter-member, or_cases}
 use Rattle.text_model.specs.declared.line.Phase.{Phase}
 use Rattle.text_model.specs.declared.line.Phase.TheVariants.{Marking}
 use Rattle.remember_cards.specs.declared.Span.{Span}
@@ -25,44 +26,30 @@ use Rattle.frame_laws.proofs.PlaceLaws.{old-is_in, is_in-old, named-by}
 use Rattle.minor_collect.specs.Carried.{Moved}
 use Rattle.minor_collect.specs.Gray.{QueuesWritten}
 use Rattle.minor_collect.specs.Midway.{Midway, Changing, with_changing, Owes, OwesNone, Placing}
-use Rattle.minor_collect.specs.Queues.{Queues, visited_places}
-use Rattle.minor_collect.specs.Spans.{IsSpanned, is_visited_span}
+use Rattle.minor_collect.specs.Queues.{Queues, has_item, is_spanned}
+use Rattle.minor_collect.specs.Spans.{IsSpanned}
 use Rattle.minor_collect.proofs.Ended.{item_leads, some-item}
+use Rattle.minor_collect.proofs.QueueSteps.{has-item, item-has, or-first, or-second, either}
 use Rattle.minor_collect.proofs.StartLaws.{held_place}
 
--- a span of a list, by what it has
-pub record SpanAt (spans : List Span) (test : Span → Bool) (q : ℕ) : Type 0 where
-  pub number : ℕ
-  pub span : Span
-  pub is : slice_get spans number ≡ Some span
-  pub passes : test span ≡ true
-  pub here : span.a ≡ q
+-- one of the spans has the item
+spanned-at : (spans : List Span) (q i : ℕ) → IsTrue (is_spanned spans q i) → IsSpanned spans q i
+spanned-at [] q i t = absurd (let no : ⊥ = cc in no)
+spanned-at (x ∷ spans) q i t = elim (either (has_item q i x) (is_spanned spans q i) t) [
+  | inl here ↦ let h = has-item q i x here in record { number = 0; span = x; listed = refl; here = sym h.0; low = h.1; high = h.2 }
+  | inr more ↦ let s = spanned-at spans q i more in record { number = suc s.number; span = s.span; listed = s.listed; here = s.here; low = s.low; high = s.high }
+]
 
-span-later : {spans : List Span} {test : Span → Bool} {q : ℕ} (first : Span) → SpanAt spans test q → SpanAt (first ∷ spans) test q
-span-later first s = record { number = suc s.number; span = s.span; is = s.is; passes = s.passes; here = s.here }
+has-listed : (test : Span → Bool) (spans : List Span) (k : ℕ) (span : Span) → slice_get spans k ≡ Some span → IsTrue (test span) → IsTrue (list_any test spans)
+has-listed test [] k span e t = absurd (let no : ⊥ = cc in no)
+has-listed test (x ∷ spans) zero span e t =
+    let same : span ≡ x = cc in
+    or-first (test x) (list_any test spans) (subst (λ (y : Span). IsTrue (test y)) same t)
+has-listed test (x ∷ spans) (suc k) span e t = or-second (test x) (list_any test spans) (has-listed test spans k span e t)
 
-span-at : (test : Span → Bool) (spans : List Span) (q : ℕ) → IsTrue (is_in q (map (λ (x : Span). x.a) (filter test spans))) → SpanAt spans test q
-span-at test [] q t = absurd (is_in-nil q t)
-span-at test (x ∷ spans) q t = go (λ u. span-at test spans q u) (test x) refl
-  where
-    go : (IsTrue (is_in q (map (λ (y : Span). y.a) (filter test spans))) → SpanAt spans test q) → (b : Bool) → test x ≡ b → SpanAt (x ∷ spans) test q
-    go more true e = elim (is_in-cases q x.a (map (λ (y : Span). y.a) (filter test spans)) (rw e at t)) [
-      | inl same ↦ record { number = 0; span = x; is = refl; passes = e; here = sym same }
-      | inr u ↦ span-later x (more u)
-    ]
-    go more false e = span-later x (more (rw e at t))
-
-span-in : (test : Span → Bool) (spans : List Span) (k : ℕ) (span : Span) → slice_get spans k ≡ Some span → test span ≡ true → IsTrue (is_in span.a (map (λ (x : Span). x.a) (filter test spans)))
-span-in test [] k span e p = absurd (let no : ⊥ = cc in no)
-span-in test (x ∷ spans) zero span e p =
-    let same : x ≡ span = cc in
-    let first : test x ≡ true = ap test same ∙ p in
-    subst (λ (y : Span). IsTrue (is_in y.a (map (λ (z : Span). z.a) (filter test (x ∷ spans))))) same (rw first (is_in-head x.a (map (λ (z : Span). z.a) (filter test spans))))
-span-in test (x ∷ spans) (suc k) span e p = go (test x) refl (span-in test spans k span e p)
-  where
-    go : (b : Bool) → test x ≡ b → IsTrue (is_in span.a (map (λ (z : Span). z.a) (filter test spans))) → IsTrue (is_in span.a (map (λ (z : Span). z.a) (filter test (x ∷ spans))))
-    go true f u = rw f (is_in-tail span.a x.a (map (λ (z : Span). z.a) (filter test spans)) u)
-    go false f u = rw f u
+is-spanned : (spans : List Span) (q i : ℕ) → IsSpanned spans q i → IsTrue (is_spanned spans q i)
+is-spanned spans q i s = has-listed (has_item q i) spans s.number s.span s.listed
+    (subst (λ (k : ℕ). IsTrue (has_item k i s.span)) s.here (item-has s.span i s.low s.high))
 
 module _ {start : HeapParts} {store : Store} {now : Changing} {held : List ℕ} {owes : Owes} {moved : Moved} {spans : List Span}
     (s : PartsStandButYoung start store) (young_held : YoungHeld store.kept store.settled (is_held_of start.remembered s.name))
@@ -70,7 +57,7 @@ module _ {start : HeapParts} {store : Store} {now : Changing} {held : List ℕ} 
     (few : (q : ℕ) → IsTrue (is_in q (old_places placing.places)) → words_at start.setup.types (word_at now.memory.blocks) q < 18446744073709551615)
     (covered : (q i : ℕ) → i < 18446744073709551615 → IsTrue (is_held start.remembered q i) → IsSpanned spans q i)
     (sound : (k : ℕ) (span : Span) → slice_get spans k ≡ Some span → IsTrue (is_in span.a (held_places start.remembered)))
-    (marking : start.phase ≡ Marking) {new : HeapParts} (queues : Queues (with_changing start now) new (visited_places (with_changing start now) spans)) where
+    (marking : start.phase ≡ Marking) {new : HeapParts} (queues : Queues (with_changing start now) new spans) where
   -- what is remembered and visited
   abbrev pub written_places : List ℕ
   written_places = filter (λ q. is_in (placing.name q) store.visited) (held_places start.remembered)
@@ -78,11 +65,10 @@ module _ {start : HeapParts} {store : Store} {now : Changing} {held : List ℕ} 
   flagged : (q : ℕ) → IsTrue (is_in q (old_places placing.places)) → has_flag (word_at now.memory.blocks q) Visited ≡ is_in (placing.name q) store.visited
   flagged q t = mid.visited.each q t ∙ ap (λ (phase : Phase). is_marked phase store.visited placing.name start.setup.settings.page placing.waiting q) marking
 
-  spanned-written : (q : ℕ) → IsTrue (is_in q (visited_places (with_changing start now) spans)) → IsTrue (is_in q written_places)
-  spanned-written q t =
-      let at = span-at (is_visited_span (with_changing start now)) spans q t in
-      let there : IsTrue (is_in q (held_places start.remembered)) = subst (λ (k : ℕ). IsTrue (is_in k (held_places start.remembered))) at.here (sound at.number at.span at.is) in
-      let flag : has_flag (word_at now.memory.blocks q) Visited ≡ true = subst (λ (k : ℕ). has_flag (word_at now.memory.blocks k) Visited ≡ true) at.here at.passes in
+  spanned-written : (q i : ℕ) → IsTrue (is_spanned spans q i) → has_flag (word_at now.memory.blocks q) Visited ≡ true → IsTrue (is_in q written_places)
+  spanned-written q i t flag =
+      let at = spanned-at spans q i t in
+      let there : IsTrue (is_in q (held_places start.remembered)) = subst (λ (k : ℕ). IsTrue (is_in k (held_places start.remembered))) at.here (sound at.number at.span at.listed) in
       filter-member (λ k. is_in (placing.name k) store.visited) (held_places start.remembered) q there (sym (flagged q (mid.carried.held_there q there)) ∙ flag)
 
   gray-before : map s.name start.gray ≡ map placing.name now.gray
@@ -117,10 +103,7 @@ module _ {start : HeapParts} {store : Store} {now : Changing} {held : List ℕ} 
             let laid = laid_out start.setup.types (word_at now.memory.blocks) q in
             let bound = few q far in
             let span = covered q j (omega (arith, l, bound, laid.begins, laid.ordered, laid.pointers, laid.refs)) here in
-            let flag : is_visited_span (with_changing start now) span.span ≡ true = ap (λ (k : ℕ). has_flag (word_at now.memory.blocks k) Visited) span.here ∙ (flagged q far ∙ part.1) in
-            let among : IsTrue (is_in q (visited_places (with_changing start now) spans)) = subst (λ (k : ℕ). IsTrue (is_in k (visited_places (with_changing start now) spans))) span.here
-            (span-in (is_visited_span (with_changing start now)) spans span.number span.span span.listed flag) in
-            elim (queues.all q j among l ne o) [
+            elim (queues.all q j (is-spanned spans q j span) (flagged q far ∙ part.1) l ne o) [
               | inl g ↦ inl g
               | inr v ↦ inr (sym (flagged z (is_in-old placing.places z there o)) ∙ v)
             ]
@@ -134,7 +117,7 @@ module _ {start : HeapParts} {store : Store} {now : Changing} {held : List ℕ} 
     more = queues.more;
     from = λ p t. elim (queues.from p t) [
       | inl g ↦ inl g
-      | inr k ↦ inr (record { from = k.from; item = k.item; there = spanned-written k.from k.there; within = k.within; is = k.is; some = k.some; old = k.old })
+      | inr k ↦ inr (record { from = k.from; item = k.item; there = spanned-written k.from k.item k.spanned k.visited; within = k.within; is = k.is; some = k.some; old = k.old })
     ];
     all = all-queued;
   }

@@ -7,7 +7,7 @@ use Rattle.heap_parts.specs.Parts.{HeapParts}
 use Rattle.heap_parts.specs.StandsFor.{PartsStandButYoung}
 use Rattle.minor_collect.specs.declared.work.Moving.{Moving}
 use Rattle.minor_collect.specs.Calls.{Stage, Spot, Middle, Survived}
-use Rattle.minor_collect.specs.Queues.{Queues, visited_places}
+use Rattle.minor_collect.specs.Queues.{Queues}
 use Rattle.minor_collect.specs.Remade.{Remakes}
 use Rattle.minor_collect.specs.Spans.{TookAll}
 use Rattle.minor_collect.specs.Vanished.{FindsVanished}
@@ -26,14 +26,14 @@ pub record Took (old : HeapParts) (spans : List Span) : Type 0 where
 abbrev pub MovesSurvivors : HeapParts → HeapParts → Moving → Type 0
 MovesSurvivors old moved moving = (store : Store) (stands : PartsStandButYoung old store) → Survived (record { start = old; store = store; stands = stands }) moved moving
 
--- What survives moved, what is gone is listed, and where marking goes on, referents of what it visited and was remembered are queued.
+-- What survives moved, what is gone is listed, and where marking goes on, what remembered items of visited objects refer to is queued.
 pub record Separates (old new : HeapParts) (moving : Moving) (dead destroyed : List ℕ) : Type 0 where
   pub moved : HeapParts
   pub spans : List Span
   pub took : Took old spans
   pub survived : MovesSurvivors old moved moving
   pub finds : (stage : Stage) (spot : Spot) → Middle stage moved spot [] → FindsVanished stage spot moved dead destroyed
-  pub queues : moved.phase ≡ Marking → Queues moved new (visited_places moved spans)
+  pub queues : moved.phase ≡ Marking → Queues moved new spans
   pub quiet : (moved.phase ≡ Marking → ⊥) → new ≡ moved
 
 -- The nursery is made anew, and what moved counts outside it: nothing was born there since.

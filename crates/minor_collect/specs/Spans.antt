@@ -6,8 +6,6 @@ use Rattle.remember_cards.specs.declared.Span.{Span}
 use Rattle.remember_cards.specs.Remembered.{is_held, held_places}
 use Rattle.remember_cards.specs.Remembering.{Remembering, remembered_by}
 use Rattle.heap_parts.specs.Parts.{HeapParts, word_in}
-use Rattle.object_header.specs.Words.{has_flag}
-use Rattle.object_header.specs.declared.flags.Flag.TheVariants.{Visited}
 use Rattle.heap_parts.specs.Places.{old_places}
 use Rattle.minor_collect.specs.declared.work.Moving.{Moving}
 use Rattle.minor_collect.specs.Midway.{Owes}
@@ -110,7 +108,3 @@ pub record TookAll (old new : HeapParts) (spans : List Span) : Type 0 where
       → IsTrue (is_in span.a (held_places old.remembered)) × ((i : ℕ) → span.from ≤ i → i < span.to → IsTrue (is_held old.remembered span.a i))
   pub empty : new.remembered.held ≡ []
   pub only : new ≡ record old { memory = new.memory; remembered = new.remembered }
-
--- whether marking visited the object of a span
-abbrev pub is_visited_span : HeapParts → Span → Bool
-is_visited_span now span = has_flag (word_in now span.a) Visited

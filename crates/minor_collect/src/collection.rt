@@ -15,12 +15,12 @@ ghost use Rattle.minor_collect.specs.Drops.{CanGiveThen, Drops};
 ghost use Rattle.minor_collect.specs.WeakPass.{CanPassWeaks, PassesWeaks};
 ghost use Rattle.minor_collect.specs.Remade.{CanRemake, Remakes};
 ghost use Rattle.minor_collect.specs.Vanished.{IsMidway, FindsVanished};
-ghost use Rattle.minor_collect.specs.Queues.{Queues, CanQueueSpans, visited_places};
+ghost use Rattle.minor_collect.specs.Queues.{Queues, CanQueueSpans};
 
 use crate::ending::{give_homes_back, list_dead, list_destroyed, pinned_ranges, queue_written};
 use crate::items::drain;
 use crate::roots::follow_roots;
-use crate::spans::{drain_spans, list_written, take_all};
+use crate::spans::{drain_spans, order_spans, take_all};
 use crate::telling::tell_loss;
 use crate::work::{Lists, Moving};
 use heap_parts::Parts;
@@ -76,7 +76,6 @@ fn separate(parts: &mut Parts, lists: &mut Lists) -> Result<(), AllocError>
     requires forced { lists.old.forced.items ≡ [] }
     requires dead { lists.old.dead.items ≡ [] }
     requires destroyed { lists.old.destroyed.items ≡ [] }
-    requires written { lists.old.written.items ≡ [] }
     ensures separates { OnOk result (Separates parts.old parts.new lists.new.moving lists.new.dead.items lists.new.destroyed.items) }
     ensures cleared { lists.new.cleared.items ≡ lists.old.cleared.items }
     ensures ends { lists.new.ends.items ≡ lists.old.ends.items }
@@ -91,7 +90,7 @@ fn separate(parts: &mut Parts, lists: &mut Lists) -> Result<(), AllocError>
         &mut lists.forced,
     )?;
     find_vanished(parts, &mut lists.dead, &mut lists.destroyed)?;
-    queue_visited(parts, &lists.spans, &mut lists.written)
+    queue_visited(parts, &mut lists.spans)
 }
 
 /// Moves all that survives and is not pinned out of the nursery. The lists are empty before. The error is out of memory.
@@ -130,22 +129,25 @@ fn find_vanished(
     list_destroyed(parts, dead, destroyed)
 }
 
-/// Queues for marking, where it goes on, what visited objects refer to that were written.
-fn queue_visited(
-    parts: &mut Parts,
-    spans: &[Span],
-    written: &mut Vec<u64>,
-) -> Result<(), AllocError>
-    requires there { parts.old.phase ≡ Marking → CanQueueSpans parts.old spans.now }
-    requires empty { written.old.items ≡ [] }
-    ensures marking { parts.old.phase ≡ Marking → OnOk result (Queues parts.old parts.new (visited_places parts.old spans.now)) }
+/// Queues for marking, where it goes on, what the items of visited objects refer to that were written. The error is out of memory.
+fn queue_visited(parts: &mut Parts, spans: &mut [Span]) -> Result<(), AllocError>
+    requires { parts.old.phase ≡ Marking → CanQueueSpans parts.old spans.old }
+    ensures marking { parts.old.phase ≡ Marking → OnOk result (Queues parts.old parts.new spans.old) }
     ensures other { (parts.old.phase ≡ Marking → ⊥) → parts.new ≡ parts.old }
 {
     if parts.phase != Phase::Marking {
         return Ok(());
     }
-    list_written(parts, spans, written)?;
-    queue_written(parts, written)
+    queue_in_order(parts, spans)
+}
+
+/// Queues for marking what the items of these spans refer to, those of each object from the first item on. The error is out of memory.
+fn queue_in_order(parts: &mut Parts, spans: &mut [Span]) -> Result<(), AllocError>
+    requires { CanQueueSpans parts.old spans.old }
+    ensures { OnOk result (Queues parts.old parts.new spans.old) }
+{
+    order_spans(spans);
+    queue_written(parts, spans)
 }
 
 /// Lets go of all that is gone: targets, homes and links. Tells how much it is, and appends the lines. The error is out of memory.

@@ -1,8 +1,10 @@
 //! What is left to be done once nothing moves any more.
 
-ghost use Rattle.std.specs.Prelude.{◌≡◌, ◌+◌, ◌++◌, ◌<◌, ◌^◌, ℕ, List, [], ◌∷◌, filter, map, sum_by, IsTrue, false, OnOk, IfOk};
+ghost use Rattle.std.specs.Prelude.{◌≡◌, ◌+◌, ◌++◌, ◌<◌, ◌^◌, ℕ, List, [], ◌∷◌, filter, map, sum_by, IsTrue, true, false, OnOk, IfOk};
 ghost use Rattle.object_model.specs.Sets.{is_in};
 ghost use Rattle.std.specs.List.Sorted.{IsPermutation, IsNonDecreasing};
+ghost use Rattle.object_header.specs.Words.{has_flag};
+ghost use Rattle.object_header.specs.declared.flags.Flag.TheVariants.{Visited};
 ghost use Rattle.object_view.specs.Views.{HasView, HasObject};
 ghost use Rattle.heap_parts.specs.Nursery.{walked};
 ghost use Rattle.heap_parts.specs.Parts.{word_in, pinned_places};
@@ -10,34 +12,51 @@ ghost use Rattle.heap_parts.specs.Places.{young_places, block_at};
 ghost use Rattle.minor_collect.specs.Remade.{AreObjectsAt, ListsPinned, words_of};
 ghost use Rattle.minor_collect.specs.Gives.{Giving, GivesSome, AreGone, CanGive, CanGiveAll, GaveOne, GaveAll};
 ghost use Rattle.minor_collect.specs.Walks.{CanSize, CanWalk, CanWalkAll, IsWalkBy, AreWalksBy, size_in, stands_at, is_gone_at, births_destroyed};
-ghost use Rattle.minor_collect.specs.Queues.{CanQueue, CanLookAt, Queues, queued_with, is_to_queue as is_to_queue_at};
+ghost use Rattle.minor_collect.specs.Queues.{CanQueue, CanQueueSpans, CanLookAt, Queues, queued_with, is_to_queue as is_to_queue_at};
 
 use crate::items::{item, view_of};
 use crate::moves::{MOVED, is_young, size_of};
+use crate::spans::is_visited;
 use heap_parts::Parts;
 use object_header::{Flag, is_set};
 use object_view::{ObjView, view};
+use remember_cards::Span;
 use std::alloc::AllocError;
 
-/// Queues for marking what these objects refer to outside the nursery, and marking did not visit. The error is out of memory.
-pub(crate) fn queue_written(parts: &mut Parts, written: &[u64]) -> Result<(), AllocError>
-    requires { (q : ℕ) → IsTrue (is_in q written.now) → CanQueue parts.old q }
-    ensures { OnOk result (Queues parts.old parts.new written.now) }
+/// Queues for marking what the items of these spans refer to, span by span. What counts is as `queue_span` says. The error is out
+/// of memory.
+pub(crate) fn queue_written(parts: &mut Parts, spans: &[Span]) -> Result<(), AllocError>
+    requires { CanQueueSpans parts.old spans.now }
+    ensures { OnOk result (Queues parts.old parts.new spans.now) }
 {
-    for q in written {
-        queue_referents(parts, *q)?;
+    for span in spans {
+        queue_span(parts, *span)?;
     }
     Ok(())
 }
 
-/// Queues what the object at a place refers to outside the nursery, and marking did not visit. The error is out of memory.
-fn queue_referents(parts: &mut Parts, q: u64) -> Result<(), AllocError>
-    requires { CanQueue parts.old q }
-    ensures { OnOk result (Queues parts.old parts.new (q ∷ [])) }
+/// Queues what the items of a span refer to, where marking visited their object: what lies outside the nursery and was not visited.
+/// The error is out of memory.
+fn queue_span(parts: &mut Parts, span: Span) -> Result<(), AllocError>
+    requires { CanQueue parts.old span.a }
+    ensures { OnOk result (Queues parts.old parts.new (span ∷ [])) }
 {
-    let v = view_of(parts, q);
-    for i in 0..v.ref_count {
-        queue_item(parts, v, q, i)?;
+    if !is_visited(parts, span.a) {
+        return Ok(());
+    }
+    queue_items(parts, span)
+}
+
+/// Queues what the items of a span of a visited object refer to outside the nursery, and marking did not visit. The error is out
+/// of memory.
+fn queue_items(parts: &mut Parts, span: Span) -> Result<(), AllocError>
+    requires can { CanQueue parts.old span.a }
+    requires visited { has_flag (word_in parts.old span.a) Visited ≡ true }
+    ensures { OnOk result (Queues parts.old parts.new (span ∷ [])) }
+{
+    let v = view_of(parts, span.a);
+    for i in span.from..span.to.min(v.ref_count) {
+        queue_item(parts, v, span.a, i)?;
     }
     Ok(())
 }

@@ -1,6 +1,7 @@
 //! What the write barrier remembered.
 
-ghost use Rattle.std.specs.Prelude.{◌≡◌, ◌+◌, ◌≤◌, ◌++◌, ◌∷◌, ℕ, [], map, not, length, slice_get, Some, IsTrue, IsSome, IfSome, IfNone, OnOk};
+ghost use Rattle.std.specs.Prelude.{◌≡◌, ◌+◌, ◌<◌, ◌≤◌, ℕ, [], map, not, length, slice_get, Some, IsTrue, IsSome, IfSome, IfNone, OnOk};
+ghost use Rattle.std.specs.List.Sorted.{IsPermutation};
 ghost use Rattle.heap_space.specs.Places.{has, word_at};
 ghost use Rattle.object_model.specs.Sets.{is_in};
 ghost use Rattle.remember_cards.specs.Remembered.{held_whole, has_held_cards};
@@ -9,7 +10,6 @@ ghost use Rattle.remember_cards.specs.Tracking.{with_head, flag_is, drained_head
 ghost use Rattle.remember_cards.specs.Drained.{HandsOut, spans_left};
 ghost use Rattle.minor_collect.specs.Calls.{Stage, Spot, Standing};
 ghost use Rattle.minor_collect.specs.Spans.{CanTakeSpans, KeepsMiddle, TakesSpans, MaySpan, CanDrainSpan, DrainedSpan, CanDrainSpans, DrainedSpans, CanTakeAll, TookAll};
-ghost use Rattle.minor_collect.specs.Queues.{HaveSameMembers, visited_places};
 ghost use Rattle.object_header.specs.Words.{has_flag};
 ghost use Rattle.object_header.specs.declared.flags.Flag.TheVariants.{Visited};
 ghost use Rattle.heap_parts.specs.Parts.{word_in};
@@ -107,45 +107,48 @@ fn with_flag(word: u64, flag: Flag, is_set: bool) -> u64
     clear(word, flag)
 }
 
-/// Appends the places of the visited objects of these spans. An object whose spans follow one another is listed once. The
-/// error is out of memory.
-pub(crate) fn list_written(
-    parts: &Parts,
-    spans: &[Span],
-    written: &mut Vec<u64>,
-) -> Result<(), AllocError>
-    requires { (k : ℕ) (span : Span) → slice_get spans.now k ≡ Some span → IsTrue (has parts.now.memory.blocks span.a) }
-    ensures { OnOk result (HaveSameMembers written.new.items (written.old.items ++ visited_places parts.now spans.now)) }
+/// Puts the spans of each object into the order of their items. The objects stay in the order in which they were remembered.
+pub(crate) fn order_spans(spans: &mut [Span])
+    ensures { IsPermutation spans.old spans.new }
 {
-    for span in spans {
-        if is_visited(parts, span.a) {
-            list_once(written, span.a)?;
-        }
+    let mut from = 0;
+    while from < spans.len() {
+        let to = end_of_object(spans, from);
+        order_part(spans, from, to);
+        from = to;
     }
-    Ok(())
 }
 
-/// Appends a place, if it is not the last of the list already. The error is out of memory.
-fn list_once(written: &mut Vec<u64>, a: u64) -> Result<(), AllocError>
-    ensures { OnOk result (HaveSameMembers written.new.items (written.old.items ++ a ∷ [])) }
+/// The index behind the last of the spans from an index on that are one object's.
+fn end_of_object(spans: &[Span], from: usize) -> usize
+    requires { from < length spans.now }
+    ensures more { from < result }
+    ensures within { result ≤ length spans.now }
 {
-    if is_last(written, a) {
-        return Ok(());
+    let a = spans[from].a;
+    let mut to = from + 1;
+    while to < spans.len() && spans[to].a == a {
+        to += 1;
     }
-    written.push(a)?;
-    Ok(())
+    to
 }
 
-/// Whether a place is the last of a list.
-fn is_last(places: &[u64], a: u64) -> bool
-    ensures { IsTrue result → IsTrue (is_in a places.now) }
+/// Puts the spans from one index on and before another into the order of their items.
+fn order_part(spans: &mut [Span], from: usize, to: usize)
+    requires order { from ≤ to }
+    requires within { to ≤ length spans.old }
+    ensures same { IsPermutation spans.old spans.new }
+    ensures len { length spans.new ≡ length spans.old }
 {
-    let n = places.len();
-    n > 0 && places[n - 1] == a
+    spans[from..to].sort_unstable_by_key(
+        |span: &Span| -> u64
+            ensures { result ≡ span.now.from }
+        { span.from },
+    );
 }
 
 /// Whether marking visited the object at a place.
-fn is_visited(parts: &Parts, a: u64) -> bool
+pub(crate) fn is_visited(parts: &Parts, a: u64) -> bool
     requires { IsTrue (has parts.now.memory.blocks a) }
     ensures { result ≡ has_flag (word_in parts.now a) Visited }
 {

@@ -58,10 +58,9 @@ impl Moving {
 #[derive(Drop)]
 pub struct Lists {
     pub(crate) moving: Moving,
-    /// The remembered items, what was kept for pinned objects first, else in the order of the first remembering.
+    /// The remembered items, what was kept for pinned objects first, else in the order of the first remembering. The spans of an
+    /// object stand together.
     pub(crate) spans: Vec<Span>,
-    /// The visited objects among those that were remembered.
-    pub(crate) written: Vec<u64>,
     /// The places of the registered objects.
     pub(crate) registered: Vec<u64>,
     /// The places of objects that P links keep.
@@ -85,7 +84,6 @@ impl Lists {
         Lists {
             moving: Moving::new(alloc),
             spans: Vec::new(alloc),
-            written: Vec::new(alloc),
             registered: Vec::new(alloc),
             forced: Vec::new(alloc),
             dead: Vec::new(alloc),
@@ -103,7 +101,6 @@ impl Lists {
         ensures objects { self.new.moving.objects ≡ 0 }
         ensures words { self.new.moving.words ≡ 0 }
         ensures spans { self.new.spans.items ≡ [] }
-        ensures written { self.new.written.items ≡ [] }
         ensures registered { self.new.registered.items ≡ [] }
         ensures forced { self.new.forced.items ≡ [] }
         ensures dead { self.new.dead.items ≡ [] }
@@ -115,7 +112,6 @@ impl Lists {
     {
         self.moving.clear();
         self.spans.clear();
-        self.written.clear();
         self.registered.clear();
         self.forced.clear();
         self.dead.clear();
