@@ -15,6 +15,7 @@ use crate::parts::Parts;
 use object_header::{Flag, is_set};
 use object_model::StructState;
 use object_view::view;
+use std::collections::BTreeMap;
 
 impl Parts {
     /// Whether a slot holds a pinned object.
@@ -100,6 +101,14 @@ impl Parts {
         requires { husk_words_of self.now.husk_list < 2 ^ 64 }
         ensures { result ≡ husk_words_of self.now.husk_list }
     {
-        self.husks.values().copied().sum()
+        words_of(&self.husks)
     }
+}
+
+/// The words of these husks.
+fn words_of(husks: &BTreeMap<u64, u64>) -> u64
+    requires { husk_words_of husks.now.entries < 2 ^ 64 }
+    ensures { result ≡ husk_words_of husks.now.entries }
+{
+    husks.values().copied().sum()
 }
