@@ -62,7 +62,7 @@ module _ (command : Command) (births : Implies (Doing command) (BirthRetained co
     leads = λ store s. let l = e.exceeds store s in (
       l.0,
       implied (IsCommandRefused command counted request limit) (RefusalRetained request) (λ heap st lines later t r. refusal_retained t request lines later r.refused.no_room)
-      old.is_spent old.parts store e.lines l.0 s l.1,
+          old.is_spent old.parts store e.lines l.0 s l.1,
       l.2,
     );
   }

@@ -107,7 +107,11 @@ pub(crate) fn run_over(
 ) -> Result<Outcome, AllocError> {
     let texts = texts_of(alloc, words)?;
     let mut files = files_of(alloc, script, machine)?;
-    let mut out = MemSink::new(alloc, machine.room, Vec::from_slice(alloc, machine.write_fails)?)?;
+    let mut out = MemSink::new(
+        alloc,
+        machine.room,
+        Vec::from_slice(alloc, machine.write_fails)?,
+    )?;
     let mut err = MemSink::new(alloc, 1000, Vec::from_slice(alloc, machine.tell_fails)?)?;
     let status = status_of(alloc, &texts, &mut files, &mut out, &mut err);
     Ok(Outcome {

@@ -101,30 +101,30 @@ module _ (kept : List Object) (white gone : ℕ → Bool) (before after : List �
   led_on : (x : ℕ) → IsReachedFrom kept before x → IsReachedFrom left after x × (gone x ≡ false)
   led_on x led = LeadsTo-least (λ y. is_in y before && is_kept kept y) (refers kept) (λ y. IsReachedFrom left after y × (gone y ≡ false))
       (λ y t.
-        let goes_on = on y (and_first (is_in y before) (is_kept kept y) t) in
-        let there = and_second (is_in y before) (is_kept kept y) t in (
-          LeadsTo-start (λ z. is_in z after && is_kept left z) (refers left) y
-          (and_both (is_in y after) (is_kept left y) goes_on.0 (kept_left white gone y kept goes_on.1 ∙ there)),
-          goes_on.1,
-        ))
+      let goes_on = on y (and_first (is_in y before) (is_kept kept y) t) in
+      let there = and_second (is_in y before) (is_kept kept y) t in (
+        LeadsTo-start (λ z. is_in z after && is_kept left z) (refers left) y
+            (and_both (is_in y after) (is_kept left y) goes_on.0 (kept_left white gone y kept goes_on.1 ∙ there)),
+        goes_on.1,
+      ))
       (λ y z p t.
-        let named = and_first (is_in z (referents_in (object_at kept y))) (is_kept kept z) t in
-        let there = and_second (is_in z (referents_in (object_at kept y))) (is_kept kept z) t in
-        let stays = referred y z p.1 named there in (
-          LeadsTo-step (λ w. is_in w after && is_kept left w) (refers left) y z p.0
-          (and_both (is_in z (referents_in (object_at left y))) (is_kept left z)
-          (subst (λ (ys : List ℕ). IsTrue (is_in z ys)) (sym (referents_left white gone y kept p.1)) named) (kept_left white gone z kept stays ∙ there)),
-          stays,
-        )) x led
+      let named = and_first (is_in z (referents_in (object_at kept y))) (is_kept kept z) t in
+      let there = and_second (is_in z (referents_in (object_at kept y))) (is_kept kept z) t in
+      let stays = referred y z p.1 named there in (
+        LeadsTo-step (λ w. is_in w after && is_kept left w) (refers left) y z p.0
+            (and_both (is_in z (referents_in (object_at left y))) (is_kept left z)
+            (subst (λ (ys : List ℕ). IsTrue (is_in z ys)) (sym (referents_left white gone y kept p.1)) named) (kept_left white gone z kept stays ∙ there)),
+        stays,
+      )) x led
 
   led_back : (x : ℕ) → IsReachedFrom left after x → IsReachedFrom kept before x
   led_back x led = LeadsTo-least (λ y. is_in y after && is_kept left y) (refers left) (IsReachedFrom kept before)
       (λ y t. LeadsTo-start (λ z. is_in z before && is_kept kept z) (refers kept) y
-          (and_both (is_in y before) (is_kept kept y) (back y (and_first (is_in y after) (is_kept left y) t)) (was_kept white gone y kept (and_second (is_in y after) (is_kept left y) t)).0))
+      (and_both (is_in y before) (is_kept kept y) (back y (and_first (is_in y after) (is_kept left y) t)) (was_kept white gone y kept (and_second (is_in y after) (is_kept left y) t)).0))
       (λ y z p t. LeadsTo-step (λ w. is_in w before && is_kept kept w) (refers kept) y z p
-          (and_both (is_in z (referents_in (object_at kept y))) (is_kept kept z)
-          (was_referent white gone y z kept (and_first (is_in z (referents_in (object_at left y))) (is_kept left z) t)).1
-          (was_kept white gone z kept (and_second (is_in z (referents_in (object_at left y))) (is_kept left z) t)).0)) x led
+      (and_both (is_in z (referents_in (object_at kept y))) (is_kept kept z)
+      (was_referent white gone y z kept (and_first (is_in z (referents_in (object_at left y))) (is_kept left z) t)).1
+      (was_kept white gone z kept (and_second (is_in z (referents_in (object_at left y))) (is_kept left z) t)).0)) x led
 
   words_led : (test : ℕ → Bool) → Tells test (IsReachedFrom kept before) → kept_words (objects_where left test) ≡ kept_words (objects_where kept test)
   words_led test tells = words_stay white gone test (λ x t. (led_on x ((tells x).0 t)).1) kept

@@ -18,7 +18,7 @@ returns-clause-taken c =
     ∙ ap (λ files. left_of files current at) c.deref.ensures.value
     ∙ sym left in
     let reads = reads_front rest bytes (take count c.copy_front-count.new.buf) c.args.buf.now at c.self.inside.most front count left c.self.invariant.2 c.requires
-      (c.min-front.ensures ∙ ap (λ xs. min (length xs) c.self.inside.most) source)
-      (c.copy_front-count.ensures.count ∙ ap (λ xs. min (length (take front xs)) (length c.args.buf.now)) source)
-      (c.copy_front-count.ensures.bytes ∙ ap (λ xs. take count (take front xs)) source) in
+    (c.min-front.ensures ∙ ap (λ xs. min (length xs) c.self.inside.most) source)
+    (c.copy_front-count.ensures.count ∙ ap (λ xs. min (length (take front xs)) (length c.args.buf.now)) source)
+    (c.copy_front-count.ensures.bytes ∙ ap (λ xs. take count (take front xs)) source) in
     (reads.0, λ none room. reads.1 none)
