@@ -31,4 +31,3 @@ pub mod RoomCalls
 pub mod RoomBirths
 pub mod CollectingCalls
 pub mod RetainedCalls
-pub mod TestCollections

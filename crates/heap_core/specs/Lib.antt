@@ -9,4 +9,3 @@ pub mod Pinning
 pub mod Telling
 pub mod TestStores
 pub mod Retained
-pub mod TestCollections

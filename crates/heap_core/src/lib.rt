@@ -15,8 +15,6 @@ mod structures;
 mod tellers;
 #[cfg(test)]
 mod tests;
-#[cfg(test)]
-mod tests_collections;
 mod usage;
 mod weak;
 

@@ -223,7 +223,7 @@ fn tight_table(alloc: Global) -> Result<TypeTable, TypeFault>
 }
 
 // The word so far behind a place, 0 where there is none.
-pub(crate) fn raw_word(space: &Space, place: u64, k: u64) -> u64 {
+fn raw_word(space: &Space, place: u64, k: u64) -> u64 {
     let Some(at) = place.checked_add(k) else {
         return 0;
     };
@@ -234,7 +234,7 @@ pub(crate) fn raw_word(space: &Space, place: u64, k: u64) -> u64 {
 }
 
 // A word of the object in a slot, as it lies in the space.
-pub(crate) fn word_of(heap: &Heap, root: u32, k: u64) -> u64 {
+fn word_of(heap: &Heap, root: u32, k: u64) -> u64 {
     match &heap.state {
         State::Started(parts) => raw_word(&parts.space, parts.place(root), k),
         State::Closed | State::Spent => 0,
@@ -273,7 +273,7 @@ fn old_answers(heap: &mut Heap) -> Result<(u64, Option<u64>), HeapFault>
 }
 
 // Starts a heap in which objects of few words are old.
-pub(crate) fn start_tight(heap: &mut Heap, alloc: Global) -> Result<(), Fail>
+fn start_tight(heap: &mut Heap, alloc: Global) -> Result<(), Fail>
     requires { heap.old ≡ closed_heap }
     ensures { OnOk result (Runs tight_setup heap.new (empty_store tight_settings)) }
 {
@@ -380,11 +380,7 @@ fn list_blocks(
 }
 
 // Appends what stands in the nursery, and then what stands outside it.
-pub(crate) fn list_all(
-    heap: &Heap,
-    alloc: Global,
-    found: &mut Vec<(u64, u64, u64)>,
-) -> Result<(), HeapFault>
+fn list_all(heap: &Heap, alloc: Global, found: &mut Vec<(u64, u64, u64)>) -> Result<(), HeapFault>
     requires { IsStanding heap.now }
 {
     match &heap.state {
@@ -397,7 +393,7 @@ pub(crate) fn list_all(
 }
 
 // Two young objects, a small old one, and a large array of references.
-pub(crate) fn bear_mixed(heap: &mut Heap, alloc: Global) -> Result<(), HeapFault>
+fn bear_mixed(heap: &mut Heap, alloc: Global) -> Result<(), HeapFault>
     requires { Runs tight_setup heap.old (empty_store tight_settings) }
     ensures { OnOk result (Runs tight_setup heap.new mixed) }
 {

@@ -5,4 +5,3 @@ pub mod RunEnds
 pub mod RunsOn
 pub mod UnitEnds
 pub mod Words
-pub mod TestSessions

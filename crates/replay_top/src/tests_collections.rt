@@ -1,16 +1,9 @@
 //! Collections over many objects, of all kinds, and in the smallest steps.
-ghost use Rattle.std.specs.Prelude.{◌≡◌, [], Some, OnOk};
-ghost use Rattle.object_model.specs.Setup.{defaults};
-ghost use Rattle.heap_core.specs.Heap.{closed_heap};
-ghost use Rattle.session_core.specs.Standing.{IsPlaced};
 
 use crate::Status;
 use crate::tests::{Machine, Outcome, SURE, run_over};
-use heap_core::{Heap, HeapFault};
-use session_core::{RunFault, Session};
 use std::alloc::{AllocError, Global};
 use std::test::Fail;
-use store_model::{Command, Item, Line, Shape, TypeInfo};
 
 /// What a script writes within so many bytes, and how its run ends.
 fn replayed(alloc: Global, script: Vec<u8>, room: usize) -> Result<Outcome, AllocError> {
@@ -161,92 +154,5 @@ fn small_steps_do_what_large_ones_do(rt: HostRuntime) -> Result<(), Fail> {
     assert_eq!(rt; count_lines(&small.out, b"step marking marking"), 22);
     assert_eq!(rt; count_lines(&large.out, b"step marking marking"), 0);
     assert_eq!(rt; count_lines(&large.out, b"step "), 16);
-    Ok(())
-}
-
-/// One object that refers to another, both young.
-const YOUNG: [Item; 4] = [
-    Item::TypeDef {
-        id: 1,
-        info: TypeInfo {
-            shape: Shape::Fixed { ints: 1, refs: 1 },
-            destructor: false,
-        },
-    },
-    Item::Command(Command::NewFixed {
-        root: 0,
-        type_id: 1,
-    }),
-    Item::Command(Command::NewFixed {
-        root: 1,
-        type_id: 1,
-    }),
-    Item::Command(Command::Link {
-        root: 0,
-        item: 0,
-        from: 1,
-    }),
-];
-
-/// Does items one after another.
-fn do_items(
-    session: &mut Session,
-    heap: &mut Heap,
-    items: &[Item],
-    lines: &mut Vec<Line>,
-) -> Result<(), RunFault>
-    requires { IsPlaced session.old heap.old }
-    ensures { OnOk result (IsPlaced session.new heap.new) }
-{
-    for next in items {
-        session.item(heap, next, lines)?;
-    }
-    Ok(())
-}
-
-/// Whether a heap is spent, and answers so.
-fn tells_spent(heap: &Heap) -> bool {
-    let spent = heap.is_spent();
-    if spent {
-        return matches!(heap.used(), Err(HeapFault::Spent));
-    }
-    false
-}
-
-/// Whether a collection ends as told: it is done, or memory runs out in it, and the heap is spent.
-fn collect_ends(session: &mut Session, heap: &mut Heap, lines: &mut Vec<Line>) -> bool
-    requires { IsPlaced session.old heap.old }
-{
-    match session.item(heap, &Item::Command(Command::Collect), lines) {
-        Ok(()) => !heap.is_spent(),
-        Err(_) => tells_spent(heap),
-    }
-}
-
-fn play_young(
-    session: &mut Session,
-    heap: &mut Heap,
-    lines: &mut Vec<Line>,
-) -> Result<bool, RunFault>
-    requires session { session.old ≡ record { settings = defaults; names = []; types = Some [] } }
-    requires closed { heap.old ≡ closed_heap }
-{
-    do_items(session, heap, &YOUNG, lines)?;
-    Ok(collect_ends(session, heap, lines))
-}
-
-/// The same over a heap of its own.
-fn collect_young(alloc: Global) -> Result<bool, RunFault> {
-    let mut session = Session::new(alloc)?;
-    let mut heap = Heap::closed();
-    let mut lines = Vec::new(alloc);
-    play_young(&mut session, &mut heap, &mut lines)
-}
-
-// Where a request for memory is refused inside a collection, the heap is spent. (`rt try --test --fail-alloc N` refuses request
-// N; this test also passes with those that fall into the collection.)
-#[test]
-fn a_refused_growth_spends(rt: HostRuntime) -> Result<(), Fail> {
-    assert_eq!(rt; collect_young(rt.alloc())?, true);
     Ok(())
 }
