@@ -1,5 +1,5 @@
 -- The births of the dead objects of a page are gathered slot by slot.
-use Rattle.std.proofs.Common.{◌≡◌, ◌≢◌, ℕ, ◌+◌, ◌*◌, ◌<◌, ◌≤◌, ◌⊎◌, inl, inr, Bool, true, false, ◌&&◌, nat_lt, List, [], ◌∷◌, ◌++◌, map, append_assoc, arith, refl, sym, ◌∙◌, ap, subst}
+use Rattle.std.proofs.Common.{◌≡◌, ◌≢◌, ℕ, ◌+◌, ◌*◌, ◌<◌, ◌≤◌, ◌⊎◌, inl, inr, Bool, true, false, cond, ◌&&◌, nat_lt, List, [], ◌∷◌, ◌++◌, map, append_assoc, append-nil, arith, refl, sym, ◌∙◌, ap, subst}
 use Rattle.std.proofs.lemmas.Bool.{cases_Bool}
 use Rattle.std.proofs.lemmas.Bool.Decides.{nat_tests}
 use Rattle.std.proofs.lemmas.List.Sorted.{IsPermutation-refl, IsPermutation-sym, IsPermutation-trans, IsPermutation-cons, IsPermutation-middle, IsPermutation-to_front}
@@ -17,11 +17,11 @@ use Rattle.size_pages.specs.Listing.{CanListBlocks}
 use Rattle.size_pages.specs.Sweeping.{is_dead, dies, birth_in}
 use Rattle.size_pages.specs.SlotSteps.{CanSweepAt, GathersBirths, HoldsNumbers}
 use Rattle.size_pages.specs.declared.Pages.{Pages}
-use Rattle.size_pages.proofs.FitLaws.{each_by_test}
+use Rattle.size_pages.proofs.FitLaws.{each_by_test, filter_skips}
 use Rattle.size_pages.proofs.ChoiceLaws.{IsWaitingPage, waiting_pages}
-use Rattle.size_pages.proofs.SplitLaws.{Among, filter_both, filter_same}
+use Rattle.size_pages.proofs.SplitLaws.{Among, IsSteady, split_at, filter_same, filter_steady, below_steady}
 use Rattle.size_pages.proofs.SlotLaws.{AreAway, PageSlots}
-use Rattle.size_pages.proofs.ListingLaws.{listed_page, slot_away, slot_among, page_blocks, filter_yes, filter_no}
+use Rattle.size_pages.proofs.ListingLaws.{listed_page, slot_away, slot_among, page_blocks}
 
 -- the first waiting page
 pub sweep_page_is : (pages : Pages) (m : Memory) (page : ℕ) → CanSweepAt pages m page → IsWaitingPage (word_in m) pages.page pages.count page
@@ -63,11 +63,11 @@ module _ (pages : Pages) (m : Memory) (page class : ℕ) (c : CanListBlocks page
       (each_never (in_page pages.page p) (λ x. (p + 8 ≤ x.0) × (x.0 < word_in m (p + 3))) live)) in
       part (λ z. some (is_class ∙ z))
 
-and_false : (b : Bool) → (b && false) ≡ false
+pub and_false : (b : Bool) → (b && false) ≡ false
 and_false true = refl
 and_false false = refl
 
-and_true : (b : Bool) → (b && true) ≡ b
+pub and_true : (b : Bool) → (b && true) ≡ b
 and_true true = refl
 and_true false = refl
 
@@ -78,38 +78,8 @@ in_page_cases size p x = cases_Bool (in_page size p x)
 abbrev pub passes : (Extent → Bool) → ℕ → Extent → Bool
 passes t place x = t x && nat_lt x.0 place
 
-passes_away : (t : Extent → Bool) (low high : ℕ) (xs : List Extent) → low ≤ high → AreAway low high xs → filter (passes t high) xs ≡ filter (passes t low) xs
-passes_away t low high xs up away = filter_same (passes t high) (passes t low) xs (Each-map (λ x. (x.0 < low) ⊎ (high ≤ x.0)) (λ x. passes t high x ≡ passes t low x) (λ x out. ap (λ (b : Bool). t x && b) (let e : nat_lt x.0 high ≡ nat_lt x.0 low = grind (arith, nat_tests) in e)) xs away)
-
--- a block that is passed: where it passes the test it is one more
-pub record Passed (t : Extent → Bool) (b n : ℕ) (live : List Extent) : Type 0 where
-  pub front : List Extent
-  pub back : List Extent
-  pub was : filter (passes t b) live ≡ front ++ back
-  pub more : t (b, n) ≡ true → filter (passes t (b + n)) live ≡ front ++ (b, n) ∷ back
-  pub without : t (b, n) ≡ false → filter (passes t (b + n)) live ≡ front ++ back
-
-pub passed : (t : Extent → Bool) (b n : ℕ) (live : List Extent) → 0 < n → Among b n live → Passed t b n live
-passed t b n live some a =
-    let F = a.front in
-    let L = a.back in
-    let x : Extent = (b, n) in
-    let up = Each-left (λ y. (y.0 < b) ⊎ (b + n ≤ y.0)) F L a.away in
-    let back = Each-right (λ y. (y.0 < b) ⊎ (b + n ≤ y.0)) F L a.away in
-    let here : nat_lt b (b + n) ≡ true = grind (arith, nat_tests) in
-    let not_yet : nat_lt b b ≡ false = grind (arith, nat_tests) in
-    let fs : filter (passes t (b + n)) F ≡ filter (passes t b) F = passes_away t b (b + n) F (omega arith) up in
-    let ls : filter (passes t (b + n)) L ≡ filter (passes t b) L = passes_away t b (b + n) L (omega arith) back in
-    let both : (k : ℕ) → filter (passes t k) live ≡ filter (passes t k) F ++ filter (passes t k) (x ∷ L) = λ k. ap (filter (passes t k)) a.is ∙ filter_both (passes t k) F (x ∷ L) in
-    record {
-      front = filter (passes t b) F;
-      back = filter (passes t b) L;
-      was = both b ∙ ap (λ (ys : List Extent). filter (passes t b) F ++ ys) (filter_no (passes t b) x L (ap (λ (c : Bool). t x && c) not_yet ∙ and_false (t x)));
-      more = λ yes_. both (b + n) ∙ ap (λ (ys : List Extent). ys ++ filter (passes t (b + n)) (x ∷ L)) fs
-          ∙ ap (λ (ys : List Extent). filter (passes t b) F ++ ys) (filter_yes (passes t (b + n)) x L (ap (λ (c : Bool). c && nat_lt b (b + n)) yes_ ∙ here) ∙ ap (λ (ys : List Extent). x ∷ ys) ls);
-      without = λ no_. both (b + n) ∙ ap (λ (ys : List Extent). ys ++ filter (passes t (b + n)) (x ∷ L)) fs
-          ∙ ap (λ (ys : List Extent). filter (passes t b) F ++ ys) (filter_no (passes t (b + n)) x L (ap (λ (c : Bool). c && nat_lt b (b + n)) no_) ∙ ls);
-    }
+passes_steady : (t : Extent → Bool) → IsSteady (passes t)
+passes_steady t low high x up out = ap (λ (b : Bool). t x && b) (below_steady low high x up out)
 
 map_both : (f : Extent → ℕ) (xs ys : List Extent) → map f (xs ++ ys) ≡ map f xs ++ map f ys
 map_both f [] ys = refl
@@ -121,13 +91,9 @@ pub record BirthsTo (pages : Pages) (m : Memory) (page : ℕ) (old new : List �
       → (births : List ℕ) × (new ≡ old ++ births) × IsPermutation (map (birth_in (word_in m)) (filter (passes (dies (word_in m) pages.page page) place) live)) births
   pub holds : HoldsNumbers old new
 
-no_more : (xs : List ℕ) → xs ++ [] ≡ xs
-no_more [] = refl
-no_more (x ∷ xs) = ap (λ (ys : List ℕ). x ∷ ys) (no_more xs)
-
 filter_none : (t : Extent → Bool) (xs : List Extent) → Each (λ x. t x ≡ false) xs → filter t xs ≡ []
 filter_none t [] all = refl
-filter_none t (x ∷ xs) all = filter_no t x xs all.0 ∙ filter_none t xs all.1
+filter_none t (x ∷ xs) all = filter_skips t x xs all.0 ∙ filter_none t xs all.1
 
 pub dies_in : (w : Words) (size p : ℕ) (x : Extent) → in_page size p x ≡ false → dies w size p x ≡ false
 dies_in w size p x e = ap (λ (b : Bool). b && is_dead (w x.0)) e
@@ -142,8 +108,8 @@ births_none pages m page class c is_class some old = record {
         | inl e ↦ (let low : page + 8 ≤ x.0 = (part e).0 in ap (λ (b : Bool). t x && b) (let l : nat_lt x.0 (page + 8 + 0 * class) ≡ false = grind (arith, nat_tests) in l) ∙ and_false (t x))
         | inr e ↦ ap (λ (b : Bool). b && nat_lt x.0 (page + 8 + 0 * class)) (dies_in w pages.page page x e)
       ]) live (page_part pages m page class c is_class some live (page ∷ rest) h)) in
-      ([], sym (no_more old), subst (λ (xs : List Extent). IsPermutation (map (birth_in w) xs) []) (sym none) (IsPermutation-refl []));
-  holds = record { more = []; is = sym (no_more old) };
+      ([], sym (append-nil old), subst (λ (xs : List Extent). IsPermutation (map (birth_in w) xs) []) (sym none) (IsPermutation-refl []));
+  holds = record { more = []; is = sym (append-nil old) };
 }
 
 -- a free slot, or one whose block does not die
@@ -160,11 +126,14 @@ births_push pages m page old new last b n some e dead here t =
     record {
       gathered = λ live rest h.
           let r = t.gathered live rest h in
-          let d = passed (dies (word_in m) pages.page page) b n live some (here live rest h) in
+          let t = dies (word_in m) pages.page page in
+          let d = split_at (passes t) (passes_steady t) b n live (here live rest h) in
           let F = map f d.front in
           let L = map f d.back in
-          let after : map f (filter (passes (dies (word_in m) pages.page page) (b + n)) live) ≡ F ++ y ∷ L = ap (map f) (d.more dead) ∙ map_both f d.front ((b, n) ∷ d.back) in
-          let was : map f (filter (passes (dies (word_in m) pages.page page) b) live) ≡ F ++ L = ap (map f) d.was ∙ map_both f d.front d.back in
+          let less : nat_lt b (b + n) ≡ true = grind (arith, nat_tests) in
+          let same : nat_lt b b ≡ false = grind (arith, nat_tests) in
+          let after : map f (filter (passes t (b + n)) live) ≡ F ++ y ∷ L = ap (map f) (d.behind ∙ ap (λ (c : Bool). d.front ++ cond c ((b, n) ∷ d.back) d.back) (ap (λ (c : Bool). c && nat_lt b (b + n)) dead ∙ less)) ∙ map_both f d.front ((b, n) ∷ d.back) in
+          let was : map f (filter (passes t b) live) ≡ F ++ L = ap (map f) (d.before ∙ ap (λ (c : Bool). d.front ++ cond c ((b, n) ∷ d.back) d.back) (ap (λ (c : Bool). t (b, n) && c) same ∙ and_false (t (b, n)))) ∙ map_both f d.front d.back in
           let held : IsPermutation (F ++ L) r.0 = subst (λ (ys : List ℕ). IsPermutation ys r.0) was r.2 in (
             r.0 ++ y ∷ [],
             e ∙ ap (λ (ys : List ℕ). ys ++ y ∷ []) r.1 ∙ append_assoc old r.0 (y ∷ []),
@@ -198,9 +167,11 @@ module _ (pages : Pages) (m : Memory) (page class : ℕ) (c : CanListBlocks page
       let is : (v : Bool) → is_dead (word_in m b) ≡ v → d (b, class) ≡ v = λ v e. ap (λ (x : Bool). x && is_dead (word_in m b)) here ∙ e in
       let skip : last ≡ new → ((live : List Extent) (rest : List ℕ) → HasHeaders pages m live (page ∷ rest) → filter (passes d (b + class)) live ≡ filter (passes d b) live) → BirthsTo pages m page old last (b + class) = λ e same. subst (λ (xs : List ℕ). BirthsTo pages m page old xs (b + class)) (sym e) (births_skip pages m page old new b (b + class) same t) in
       subst (λ (place : ℕ). BirthsTo pages m page old last place) next (elim which [
-        | inl h ↦ skip h.1 (λ live rest has. passes_away d b (b + class) live (omega arith) (at_free pages m page class c is_class some i inside h.0 live (page ∷ rest) has))
+        | inl h ↦ skip h.1 (λ live rest has. filter_steady (passes d) (passes_steady d) b (b + class) live (omega arith) (at_free pages m page class c is_class some i inside h.0 live (page ∷ rest) has))
         | inr k ↦ elim k [
-          | inl h ↦ skip h.2 (λ live rest has. let p = passed d b class live (omega arith) (at_live pages m page class c is_class some i inside h.0 live (page ∷ rest) has) in p.without (is false h.1) ∙ sym p.was)
+          | inl h ↦ skip h.2 (λ live rest has. let p = split_at (passes d) (passes_steady d) b class live (at_live pages m page class c is_class some i inside h.0 live (page ∷ rest) has) in
+                let out : (k : ℕ) → passes d k (b, class) ≡ false = λ k. ap (λ (v : Bool). v && nat_lt b k) (is false h.1) in
+                p.behind ∙ ap (λ (v : Bool). p.front ++ cond v ((b, class) ∷ p.back) p.back) (out (b + class) ∙ sym (out b)) ∙ sym p.before)
           | inr h ↦ births_push pages m page old new last b class (omega arith) h.2 (is true h.1) (λ live rest has. at_live pages m page class c is_class some i inside h.0 live (page ∷ rest) has) t
         ]
       ])

@@ -1,6 +1,6 @@
 //! Blocks of small sizes, in pages. A page has eight header words, then blocks of one size, its
 //! class. Free blocks are chained through their own words, and pages are linked into lists through
-//! the words of their headers: one list for the unused pages, one for those that wait for a sweep,
+//! the words of their headers: one list for those that wait for a sweep,
 //! and for each class one for the pages with room and one for the full ones. Nothing is kept beside
 //! the words of the space but sizes, counts, the head of each list, and room for the places of the
 //! pages in use while a sweep begins.
@@ -25,10 +25,8 @@ mod sweep;
 mod tests;
 mod words;
 
-use blocks::{FULL, WAITING, put_on_chain};
 use heap_space::Space;
 use std::alloc::{AllocError, Global};
-use words::load;
 
 /// The place of the first arena.
 pub(crate) const ARENAS: u64 = 4294967296;
@@ -48,8 +46,8 @@ pub struct Pages {
     pub(crate) lowest: u64,
     /// How many pages wait.
     pub(crate) waiting: u64,
-    /// The first page of each list, or 0: of the unused pages, of the waiting ones, and from number
-    /// 2 n on of those with blocks of n words that have room, and of the full ones.
+    /// The first page of each list, or 0: at number 1 of the waiting pages, and from number 2 n on
+    /// of those with blocks of n words that have room, and of the full ones. At 0 stands none.
     pub(crate) heads: Vec<u64>,
     /// Room for the places of all pages. Only while a sweep begins it holds some: those of the pages
     /// in use.
@@ -106,12 +104,7 @@ impl Pages {
         ensures sizes { KeepsSizes self.old self.new }
     {
         self.grow_heads()?;
-        let page = self.heads[(2 * n) as usize];
-        if page != 0 {
-            self.take_off(space, page, (2 * n) as usize);
-            return Ok(self.take_unlisted(space, page, n));
-        }
-        let page = self.start_page(space, n)?;
+        let page = self.find_page(space, n)?;
         Ok(self.take_unlisted(space, page, n))
     }
 
@@ -128,21 +121,7 @@ impl Pages {
         ensures sizes { KeepsSizes self.old self.new }
     {
         let page = self.page_of(a);
-        let kind = load(space, page + 6);
-        let live = load(space, page + 2);
-        if kind == WAITING {
-            put_on_chain(space, page, a);
-            return;
-        }
-        if live == 1 {
-            self.end_page(space, page, a, n, (2 * n + (kind - 1)) as usize);
-            return;
-        }
-        if kind == FULL {
-            self.give_back_full(space, page, a, n);
-            return;
-        }
-        put_on_chain(space, page, a);
+        self.give(space, page, a, n);
     }
 
     /// The number of waiting pages.
