@@ -18,7 +18,7 @@ use Rattle.size_pages.specs.SweepSteps.{IsOnlyLists}
 use Rattle.size_pages.specs.declared.Pages.{Pages}
 use Rattle.size_pages.proofs.FitLaws.{pages_apart, pages_part, fits_links, StaysButLinks}
 use Rattle.size_pages.proofs.ListLaws.{places_map, Cut, cut_at, linked_behind, linked_front}
-use Rattle.size_pages.proofs.ListMoves.{page_words, not_zero, first_page, last_page, rest_first, used_list, lists_unlink, lists_link, right_words}
+use Rattle.size_pages.proofs.ListMoves.{page_words, not_zero, first_page, last_page, rest_first, used_list, signs_from, lists_unlink, lists_link, right_words}
 
 pub index_in : (xs : List ℕ) (i : ℕ) → slice_index xs i ≢ 0 → i < length xs
 index_in xs i h = grind (arith, get_or_past)
@@ -294,13 +294,7 @@ signs_on pages after m new page list c u =
     let wide : 64 ≤ size = f.blocks.size_low in
     let b = beside w size count page list pages.heads.items c.stands.waiting 0 f.lists c.is_page (not_zero size count page c.is_page) c.is_list c.some in
     let word : (i : ℕ) → i < 8 → i ≢ 4 → i ≢ 5 → word_in new (page + i) ≡ w (page + i) = λ i small n4 n5. u.rest (page + i) (page_words size count page (w (page + 5)) i 4 wide c.is_page b.before small (omega arith) n4) (page_words size count page (w (page + 4)) i 5 wide c.is_page b.next small (omega arith) n5) in
-    record {
-      class = subst (λ (e : ℕ). word_in new e ≡ w e) (omega arith) (word 0 (omega arith) (omega arith) (omega arith));
-      chain = word 1 (omega arith) (omega arith) (omega arith);
-      count = word 2 (omega arith) (omega arith) (omega arith);
-      fresh = word 3 (omega arith) (omega arith) (omega arith);
-      kind = word 6 (omega arith) (omega arith) (omega arith);
-    }
+    signs_from w (word_in new) page word
 
 pub off_signs : (pages : Pages) (after : List ℕ) (m new : Memory) (page list : ℕ) → CanTakeOff pages m page list → Unlinks (word_in m) (word_in new) pages.heads.items after page list → SameSigns (word_in m) (word_in new) page
 off_signs pages after m new page list c u = signs_on pages after m new page list (on_list c) u

@@ -14,7 +14,7 @@ use Rattle.size_pages.specs.PageLists.{ListsFit, SameSigns}
 use Rattle.size_pages.specs.HasBlocks.{HasSetup, HasBlocks}
 use Rattle.size_pages.specs.declared.Pages.{Pages}
 use Rattle.size_pages.proofs.FitLaws.{pages_apart, pages_part, fits_frame}
-use Rattle.size_pages.proofs.ListMoves.{SameLinks, lists_frame, rightly_same}
+use Rattle.size_pages.proofs.ListMoves.{SameLinks, signs_from, lists_frame, rightly_same}
 use Rattle.size_pages.proofs.FitsLaws.{below_of, classes_same}
 use Rattle.size_pages.proofs.GiveLaws.{used_page}
 use Rattle.size_pages.specs.PageWords.{PageHolds, IsBlockOf}
@@ -43,13 +43,7 @@ HasBlocks_untouched pages old new live waiting f next size_same u =
     let word : (k i : ℕ) → k < count → i < 8 → now (page_at size k + i) ≡ w (page_at size k + i) = λ k i below small.
     let part : page_at size k + size ≤ page_at size count = pages_part size k count below in
     u.words (page_at size k + i) (omega arith) (omega arith) (Each-map (IsInPages size count) (λ x. (page_at size k + i < x.0) ⊎ (x.0 + x.1 ≤ page_at size k + i)) (λ x is. outside_header size count k i x small is) live f.blocks.inside) in
-    let signs : (k : ℕ) → k < count → SameSigns w now (page_at size k) = λ k below. record {
-      class = subst (λ (e : ℕ). now e ≡ w e) (omega arith) (word k 0 below (omega arith));
-      chain = word k 1 below (omega arith);
-      count = word k 2 below (omega arith);
-      fresh = word k 3 below (omega arith);
-      kind = word k 6 below (omega arith);
-    } in
+    let signs : (k : ℕ) → k < count → SameSigns w now (page_at size k) = λ k below. signs_from w now (page_at size k) (λ i small n4 n5. word k i below small) in
     let lists : ListsFit now size count pages.heads.items waiting 0 = lists_frame w now size count pages.heads.items waiting 0 f.lists
     (λ x px n. subst (λ (y : ℕ). SameLinks w now y) (sym px.is) (let s = signs px.number px.below in record { class = s.class; next = word px.number 4 px.below (omega arith); before = word px.number 5 px.below (omega arith); kind = s.kind }))
     (λ k below n. rightly_same w now size (page_at size k) (signs k below) (f.lists.rightly k below n)) in

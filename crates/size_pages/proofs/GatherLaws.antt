@@ -1,5 +1,5 @@
 -- The births of the dead objects of a page are gathered slot by slot.
-use Rattle.std.proofs.Common.{◌≡◌, ◌≢◌, ℕ, ◌+◌, ◌*◌, ◌<◌, ◌≤◌, ◌⊎◌, inl, inr, Bool, true, false, cond, ◌&&◌, nat_lt, List, [], ◌∷◌, ◌++◌, map, append_assoc, append-nil, arith, refl, sym, ◌∙◌, ap, subst}
+use Rattle.std.proofs.Common.{◌≡◌, ◌≢◌, ℕ, ◌+◌, ◌-◌, ◌*◌, ◌/◌, ◌<◌, ◌≤◌, ◌⊎◌, inl, inr, Bool, true, false, cond, ◌&&◌, nat_lt, List, [], ◌∷◌, ◌++◌, map, append_assoc, append-nil, arith, refl, sym, ◌∙◌, ap, subst}
 use Rattle.std.proofs.lemmas.Bool.{cases_Bool}
 use Rattle.std.proofs.lemmas.Bool.Decides.{nat_tests}
 use Rattle.std.proofs.lemmas.List.Sorted.{IsPermutation-refl, IsPermutation-sym, IsPermutation-trans, IsPermutation-cons, IsPermutation-middle, IsPermutation-to_front}
@@ -10,7 +10,7 @@ use Rattle.heap_space.specs.Extents.{Extent, Each}
 use Rattle.heap_space.proofs.ExtentLaws.{Each-map, Each-left, Each-right}
 use Rattle.object_header.specs.Words.{has_flag}
 use Rattle.object_header.specs.declared.flags.Flag.TheVariants.{Free}
-use Rattle.size_pages.specs.PageWords.{Words, word_in, HasAll, IsBlockOf}
+use Rattle.size_pages.specs.PageWords.{Words, word_in, CanStore, HasAll, IsBlockOf}
 use Rattle.size_pages.specs.LiveBlocks.{page_at, blocks_of, in_page}
 use Rattle.size_pages.specs.Headers.{HasHeaders}
 use Rattle.size_pages.specs.Listing.{CanListBlocks}
@@ -21,7 +21,7 @@ use Rattle.size_pages.proofs.FitLaws.{each_by_test, filter_skips}
 use Rattle.size_pages.proofs.ChoiceLaws.{IsWaitingPage, waiting_pages}
 use Rattle.size_pages.proofs.SplitLaws.{Among, IsSteady, split_at, filter_same, filter_steady, below_steady}
 use Rattle.size_pages.proofs.SlotLaws.{AreAway, PageSlots}
-use Rattle.size_pages.proofs.ListingLaws.{listed_page, slot_away, slot_among, page_blocks}
+use Rattle.size_pages.proofs.ListingLaws.{listed_page, slot_away, slot_among, slots_count, slot_inside, page_blocks}
 
 -- the first waiting page
 pub sweep_page_is : (pages : Pages) (m : Memory) (page : ℕ) → CanSweepAt pages m page → IsWaitingPage (word_in m) pages.page pages.count page
@@ -156,11 +156,15 @@ passes_all pages m page class c is_class some t out live waiting h =
     ]) live (page_part pages m page class c is_class some live waiting h))
 
 module _ (pages : Pages) (m : Memory) (page class : ℕ) (c : CanListBlocks pages m page) (is_class : class ≡ word_in m page) (some : class ≢ 0) where
-  pub births_slot : (i : ℕ) (old new last : List ℕ) → page + 8 + i * class + class ≤ page + pages.page → page + 8 + i * class < word_in m (page + 3) → BirthsTo pages m page old new (page + 8 + i * class)
+  pub births_slot : (i : ℕ) (old new last : List ℕ) → page + 8 + i * class + class ≤ word_in m (page + 3) → BirthsTo pages m page old new (page + 8 + i * class)
       → ((has_flag (word_in m (page + 8 + i * class)) Free ≡ true) × (last ≡ new)) ⊎ (((has_flag (word_in m (page + 8 + i * class)) Free ≡ false) × (is_dead (word_in m (page + 8 + i * class)) ≡ false) × (last ≡ new)) ⊎ ((has_flag (word_in m (page + 8 + i * class)) Free ≡ false) × (is_dead (word_in m (page + 8 + i * class)) ≡ true) × (last ≡ new ++ word_in m (page + 8 + i * class + 1) ∷ [])))
       → BirthsTo pages m page old last (page + 8 + (i + 1) * class)
-  births_slot i old new last high inside t which =
+  births_slot i old new last ends t which =
+      let s = (listed_page pages m page c).slots (λ z. some (is_class ∙ z)) in
+      let fresh_high : word_in m (page + 3) ≤ page + pages.page = s.fresh_high in
+      let two : 2 ≤ class = subst (λ (k : ℕ). 2 ≤ k) (sym is_class) s.words in
       let b = page + 8 + i * class in
+      let inside : b < word_in m (page + 3) = omega arith in
       let d = dies (word_in m) pages.page page in
       let next : b + class ≡ page + 8 + (i + 1) * class = (let e : (i + 1) * class ≡ i * class + class = grind arith in omega arith) in
       let here : in_page pages.page page (b, class) ≡ true = grind (arith, nat_tests) in
@@ -200,3 +204,33 @@ swept_page pages m page c =
     let g = listed_page pages m page can in
     let used : word_in m page ≢ 0 = λ z. let two : 2 ≤ word_in m page = w.used in omega arith in
     record { can = can; used = used; all = g.all; slots = g.slots used; wide = g.wide; high = g.high }
+
+-- the slots of the first waiting page, by their numbers
+module _ (pages : Pages) (m : Memory) (page class count : ℕ) (c : CanSweepAt pages m page) (is_class : class ≡ word_in m page) (is_count : count ≡ (word_in m (page + 3) - (page + 8)) / class) where
+  all_slots : count ≡ (swept_page pages m page c).slots.slots
+  all_slots = is_count ∙ slots_count (word_in m) pages.page page (word_in m (page + 3)) class (swept_page pages m page c).slots refl is_class
+
+  pub slot_in : (i : ℕ) → i < count → page + 8 + i * class + class ≤ word_in m (page + 3)
+  slot_in i below = slot_inside (word_in m) pages.page page i class (swept_page pages m page c).slots is_class (subst (λ (k : ℕ). i < k) all_slots below)
+
+  pub slot_birth : (i : ℕ) → i < count → CanStore m (page + 8 + i * class + 1)
+  slot_birth i below =
+      let g = swept_page pages m page c in
+      let ends = slot_in i below in
+      let high : word_in m (page + 3) ≤ page + pages.page = g.slots.fresh_high in
+      let two : 2 ≤ class = subst (λ (k : ℕ). 2 ≤ k) (sym is_class) g.slots.words in
+      g.all (page + 8 + i * class + 1) (omega arith) (omega arith)
+
+  pub slot_word : (i : ℕ) → i < count → CanStore m (page + 8 + i * class)
+  slot_word i below =
+      let g = swept_page pages m page c in
+      let ends = slot_in i below in
+      let high : word_in m (page + 3) ≤ page + pages.page = g.slots.fresh_high in
+      let two : 2 ≤ class = subst (λ (k : ℕ). 2 ≤ k) (sym is_class) g.slots.words in
+      g.all (page + 8 + i * class) (omega arith) (omega arith)
+
+  pub slots_end : (i : ℕ) → i ≡ count → page + 8 + i * class ≡ word_in m (page + 3)
+  slots_end i last =
+      let g = swept_page pages m page c in
+      let all : g.slots.slots * word_in m page + (page + 8) ≡ word_in m (page + 3) = g.slots.all in
+      let e : i * class ≡ g.slots.slots * word_in m page = ap (λ (k : ℕ). k * class) (last ∙ all_slots) ∙ ap (λ (k : ℕ). g.slots.slots * k) is_class in omega arith

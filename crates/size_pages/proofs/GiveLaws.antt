@@ -13,7 +13,7 @@ use Rattle.size_pages.specs.Steps.{CanPut, IsOnlyHeads, BlockIn}
 use Rattle.size_pages.specs.declared.Pages.{Pages}
 use Rattle.size_pages.proofs.PageLaws.{holds_given}
 use Rattle.size_pages.proofs.FitLaws.{pages_apart, pages_part, fits_one, fits_less, page_of_block, page_used, stays_elsewhere}
-use Rattle.size_pages.proofs.ListMoves.{SameLinks, lists_frame, lists_unused, rightly_same}
+use Rattle.size_pages.proofs.ListMoves.{SameLinks, signs_from, lists_frame, lists_unused, rightly_same}
 use Rattle.size_pages.proofs.FitsLaws.{arenas_stay, fits_new, page_facts, header_has, below_of, places_of}
 
 -- nothing of the pages' numbers changes
@@ -58,13 +58,7 @@ other_word size count x p i wide px pp n small =
 pub lists_inner : (old new : Words) (size count : ℕ) (heads waiting : List ℕ) (except p : ℕ) → 64 ≤ size → ListsFit old size count heads waiting except → IsPage size count p → IsOnlyPage old new p size → (p ≢ except → SameLinks old new p × IsListedRightly new size p) → ListsFit new size count heads waiting except
 lists_inner old new size count heads waiting except p wide h pp same here =
     let word : (x i : ℕ) → IsPage size count x → x ≢ p → i < 8 → new (x + i) ≡ old (x + i) = λ x i px n small. same (x + i) (other_word size count x p i wide px pp n small) in
-    let signs : (x : ℕ) → IsPage size count x → x ≢ p → SameSigns old new x = λ x px n. record {
-      class = subst (λ (e : ℕ). new e ≡ old e) (omega arith) (word x 0 px n (omega arith));
-      chain = word x 1 px n (omega arith);
-      count = word x 2 px n (omega arith);
-      fresh = word x 3 px n (omega arith);
-      kind = word x 6 px n (omega arith);
-    } in
+    let signs : (x : ℕ) → IsPage size count x → x ≢ p → SameSigns old new x = λ x px n. signs_from old new x (λ i small n4 n5. word x i px n small) in
     lists_frame old new size count heads waiting except h
     (λ x px n. elim (eqb_tells x p) [
       | inl a ↦ subst (λ (y : ℕ). SameLinks old new y) (sym a.1) (here (λ e. n (a.1 ∙ e))).0

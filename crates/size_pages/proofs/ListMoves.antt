@@ -65,6 +65,16 @@ right_words kind old new size p class chain count fresh h = record {
   busy = λ e. let some : 0 < old (p + 2) = h.busy e in omega arith;
 }
 
+-- from the words of a header but its links
+pub signs_from : (old new : Words) (p : ℕ) → ((i : ℕ) → i < 8 → i ≢ 4 → i ≢ 5 → new (p + i) ≡ old (p + i)) → SameSigns old new p
+signs_from old new p word = record {
+  class = subst (λ (e : ℕ). new e ≡ old e) (omega arith) (word 0 (omega arith) (omega arith) (omega arith));
+  chain = word 1 (omega arith) (omega arith) (omega arith);
+  count = word 2 (omega arith) (omega arith) (omega arith);
+  fresh = word 3 (omega arith) (omega arith) (omega arith);
+  kind = word 6 (omega arith) (omega arith) (omega arith);
+}
+
 pub right_same : (kind : ℕ) (old new : Words) (size p : ℕ) → SameSigns old new p → IsRight kind old size p → IsRight kind new size p
 right_same kind old new size p s h = right_words kind old new size p s.class s.chain s.count s.fresh h
 
@@ -163,13 +173,7 @@ lists_unlink_any old new size count heads after waiting waiting2 k s h cut wide 
       λ n. u.rest (x + 4) (omega arith) (page_words size count x next 4 5 wide px next_page (omega arith) (omega arith) (omega arith)),
       λ n. u.rest (x + 5) (page_words size count x before 5 4 wide px before_page (omega arith) (omega arith) (omega arith)) (omega arith),
     ) in
-    let signs : (x : ℕ) → IsPage size count x → SameSigns old new x = λ x px. record {
-      class = subst (λ (e : ℕ). new e ≡ old e) (omega arith) (word x 0 px (omega arith) (omega arith) (omega arith));
-      chain = word x 1 px (omega arith) (omega arith) (omega arith);
-      count = word x 2 px (omega arith) (omega arith) (omega arith);
-      fresh = word x 3 px (omega arith) (omega arith) (omega arith);
-      kind = word x 6 px (omega arith) (omega arith) (omega arith);
-    } in
+    let signs : (x : ℕ) → IsPage size count x → SameSigns old new x = λ x px. signs_from old new x (λ i small n4 n5. word x i px small n4 n5) in
     let same : (x : ℕ) → IsPage size count x → list_of new x ≡ list_of old x = λ x px. same_list old new x (signs x px).class (signs x px).kind in
     let signed : EachPlace (λ y. (y ≡ 0) ⊎ (list_of old y ≡ s)) (bs ++ p ∷ rest) = places_map (λ q. (list_of old q ≡ s) × (q ≢ 0)) (λ y. (y ≡ 0) ⊎ (list_of old y ≡ s)) (λ y r. inr r.0) (bs ++ p ∷ rest) right in
     let before_sign : (before ≡ 0) ⊎ (list_of old before ≡ s) = subst (λ (y : ℕ). (y ≡ 0) ⊎ (list_of old y ≡ s)) (sym is_before) (last_has (λ y. (y ≡ 0) ⊎ (list_of old y ≡ s)) 0 bs (p ∷ rest) (inl refl) signed) in
@@ -289,13 +293,7 @@ lists_link old new size count heads after waiting waiting2 k s kind wide below s
     u.rest (x + i) (off_page size count x p i 4 wide px is_p small (omega arith) n) (off_page size count x p i 5 wide px is_p small (omega arith) n) (off_page size count x p i 6 wide px is_p small (omega arith) n) (page_words size count x next i 5 wide px next_page small (omega arith) n5) in
     let back : (x : ℕ) → IsPage size count x → x ≢ p → x ≢ next → new (x + 5) ≡ old (x + 5) = λ x px n m.
     u.rest (x + 5) (off_page size count x p 5 4 wide px is_p (omega arith) (omega arith) n) (omega arith) (off_page size count x p 5 6 wide px is_p (omega arith) (omega arith) n) (omega arith) in
-    let signs : (x : ℕ) → IsPage size count x → x ≢ p → SameSigns old new x = λ x px n. record {
-      class = subst (λ (e : ℕ). new e ≡ old e) (omega arith) (word x 0 px n (omega arith) (omega arith));
-      chain = word x 1 px n (omega arith) (omega arith);
-      count = word x 2 px n (omega arith) (omega arith);
-      fresh = word x 3 px n (omega arith) (omega arith);
-      kind = word x 6 px n (omega arith) (omega arith);
-    } in
+    let signs : (x : ℕ) → IsPage size count x → x ≢ p → SameSigns old new x = λ x px n. signs_from old new x (λ i small n4 n5. word x i px n small n5) in
     let same : (x : ℕ) → IsPage size count x → x ≢ p → list_of new x ≡ list_of old x = λ x px n. same_list old new x (signs x px n).class (signs x px n).kind in
     let kept : (t : ℕ) → EachPlace (λ x. IsPage size count x × (list_of old x ≡ t) × (x ≢ p)) (h.lists t) = λ t.
     places_both (IsPage size count) (λ q. (list_of old q ≡ t) × (q ≢ p)) (λ x. IsPage size count x × (list_of old x ≡ t) × (x ≢ p)) (λ x px r. (px, r.0, r.1)) (h.lists t) (h.pages t) (h.right t) in

@@ -77,8 +77,8 @@ impl Pages {
         self.lowest = self.lowest.min((page - ARENAS) / self.page);
     }
 
-    /// A page for a block of n words, taken off its list where it was on one: of its class the first
-    /// that has room, or else the lowest unused one.
+    /// A page for a block of n words, taken off its list where it was on one: the first of its
+    /// class that has room, or else the lowest unused one.
     pub(crate) fn find_page(&mut self, space: &mut Space, n: u64) -> Result<u64, AllocError>
         requires stands { Stands self.old space.old }
         requires n { (2 ≤ n) × (n ≤ self.old.small) }
