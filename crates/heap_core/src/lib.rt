@@ -20,4 +20,5 @@ mod weak;
 
 pub use fault::HeapFault;
 pub use heap::Heap;
+pub use heap_parts::{Found, kind_found};
 pub use rawref_links::Dec;

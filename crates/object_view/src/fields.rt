@@ -5,7 +5,7 @@
 ghost use Rattle.std.specs.Prelude.{◌≡◌, ◌+◌, ◌^◌, ◌<◌, IsTrue, IsSome};
 ghost use Rattle.type_table.specs.Table.{value_at};
 ghost use Rattle.object_model.specs.Layout.{layout_of};
-ghost use Rattle.object_model.specs.ObjectWords.{info_or_weak};
+ghost use Rattle.object_model.specs.ObjectWords.{info_or_weak, info_at};
 ghost use Rattle.heap_space.specs.Places.{word_at, with_word, lies_in_one};
 ghost use Rattle.object_view.specs.Views.{HasObject, HasView, view_of, view_at};
 
@@ -33,13 +33,23 @@ pub fn view(space: &Space, types: &TypeTable, a: u64) -> ObjView
     ensures value { result ≡ view_at types.now (word_at space.now.blocks) a }
     ensures whole { HasView space.now result a }
 {
+    shaped_view(space, types, a).1
+}
+
+/// The same with the shape of the object, after one look-up of its type.
+pub fn shaped_view(space: &Space, types: &TypeTable, a: u64) -> (Shape, ObjView)
+    requires { HasObject space.now types.now a }
+    ensures shape { result.0 ≡ (info_at types.now (word_at space.now.blocks) a).shape }
+    ensures value { result.1 ≡ view_at types.now (word_at space.now.blocks) a }
+    ensures whole { HasView space.now result.1 a }
+{
     // The places of a space are below 2^63.
     let _ordered = space.arena_words();
     let type_id = object_header::type_id(space.read(a));
     let birth = space.read(a + 1);
     let info = info_of(types, type_id);
     let len = length_of(space, info.shape, a);
-    parts(info.shape, a, len, type_id, birth)
+    (info.shape, parts(info.shape, a, len, type_id, birth))
 }
 
 // The descriptor of a type of the table.

@@ -6,7 +6,7 @@ ghost use Rattle.session_core.specs.Commands.{may_collect, is_early, is_middle, 
 ghost use Rattle.session_core.specs.Standing.{KeepsFront};
 ghost use Rattle.session_core.specs.Ends.{EndsCommand};
 
-use heap_core::{Dec, Heap, HeapFault};
+use heap_core::{Dec, Found, Heap, HeapFault};
 use store_model::{Command, Line};
 
 /// Does a command that is not refused, and appends its lines. Those of the collections before a birth that the limit refuses are
@@ -15,6 +15,7 @@ use store_model::{Command, Line};
 pub(crate) fn do_command(
     heap: &mut Heap,
     command: &Command,
+    found: Option<Found>,
     out: &mut Vec<Line>,
 ) -> Result<(), HeapFault>
     requires can { CanDo heap.old command.now }
@@ -32,12 +33,17 @@ pub(crate) fn do_command(
         Command::Minor => heap.minor(out),
         Command::Step => heap.step(out),
         Command::Collect => heap.collect(out),
-        _ => do_at_once(heap, command, out),
+        _ => do_at_once(heap, command, found, out),
     }
 }
 
 /// The same of a command that makes no collection. Where memory runs out, the heap stands where it stood.
-fn do_at_once(heap: &mut Heap, command: &Command, out: &mut Vec<Line>) -> Result<(), HeapFault>
+fn do_at_once(
+    heap: &mut Heap,
+    command: &Command,
+    found: Option<Found>,
+    out: &mut Vec<Line>,
+) -> Result<(), HeapFault>
     requires can { CanDo heap.old command.now }
     requires alive { heap.old.is_spent ≡ false }
     requires rest { may_collect command.now ≡ false }
@@ -47,11 +53,16 @@ fn do_at_once(heap: &mut Heap, command: &Command, out: &mut Vec<Line>) -> Result
     ensures cause { IfErr result (λ fault. fault ≡ OutOfMemory) }
 {
     out.reserve(1)?;
-    on_objects(heap, command, out)
+    on_objects(heap, command, found, out)
 }
 
 /// The same where there is room for the one line that such a command prints at most.
-fn on_objects(heap: &mut Heap, command: &Command, out: &mut Vec<Line>) -> Result<(), HeapFault>
+fn on_objects(
+    heap: &mut Heap,
+    command: &Command,
+    found: Option<Found>,
+    out: &mut Vec<Line>,
+) -> Result<(), HeapFault>
     requires can { CanDo heap.old command.now }
     requires alive { heap.old.is_spent ≡ false }
     requires room { vec_len out.old < vec_capacity out.old }
@@ -62,15 +73,15 @@ fn on_objects(heap: &mut Heap, command: &Command, out: &mut Vec<Line>) -> Result
     ensures cause { IfErr result (λ fault. fault ≡ OutOfMemory) }
 {
     match *command {
-        Command::Put { root, item, value } => heap.put(root, item, value),
+        Command::Put { root, item, value } => heap.put_found(root, found, item, value),
         Command::Get { root, item } => {
-            let value = heap.get(root, item)?;
+            let value = heap.get_found(root, found, item)?;
             out.push_reserved(Line::Got { value });
             Ok(())
         }
-        Command::Link { root, item, from } => heap.link(root, item, from),
+        Command::Link { root, item, from } => heap.link_found(root, found, item, from),
         Command::Load { to, root, item } => {
-            let birth = heap.load(to, root, item)?;
+            let birth = heap.load_found(to, root, found, item)?;
             out.push_reserved(Line::Loaded { birth });
             Ok(())
         }

@@ -16,14 +16,14 @@ use crate::checks::{
 };
 use crate::session::Session;
 use crate::settings::is_outside;
-use heap_core::Heap;
-use store_model::{Command, Item, Reason, Shape, TypeInfo};
+use heap_core::{Found, Heap, kind_found};
+use store_model::{Command, Item, Kind, Reason, Shape, TypeInfo};
 use type_table::MAX_TYPES;
 
 impl Session {
     /// The first reason for which the program refuses an item, if it does.
     #[tactic(auto, unfolding(store_model::specs::Refusal::refusal_seen))]
-    pub(crate) fn refusal(&self, heap: &Heap, item: &Item) -> Option<Reason>
+    pub(crate) fn refusal(&self, heap: &Heap, item: &Item, found: Option<Found>) -> Option<Reason>
         requires { IsPlaced self.now heap.now }
         ensures { result ≡ refusal_of self.now heap.now item.now }
     {
@@ -31,7 +31,7 @@ impl Session {
             Item::Blank => None,
             Item::Setting { name, value } => self.setting_refusal(name, value),
             Item::TypeDef { id, .. } => self.type_refusal(heap, id),
-            Item::Command(command) => self.command_refusal(heap, &command),
+            Item::Command(command) => self.command_refusal(heap, &command, found),
         }
     }
 
@@ -68,18 +68,28 @@ impl Session {
     }
 
     /// The first reason for which a command is refused, if it is.
-    fn command_refusal(&self, heap: &Heap, command: &Command) -> Option<Reason>
+    fn command_refusal(
+        &self,
+        heap: &Heap,
+        command: &Command,
+        found: Option<Found>,
+    ) -> Option<Reason>
         requires { IsPlaced self.now heap.now }
         ensures { result ≡ first_reason (command_checks (setup_of self.now heap.now) (seen_if self.now.types heap.now) command.now) }
     {
         if command.is_above() {
             return Some(Reason::Range);
         }
-        self.refusal_in_range(heap, command)
+        self.refusal_in_range(heap, command, found)
     }
 
     /// The same for a command none of whose numbers is out of range.
-    fn refusal_in_range(&self, heap: &Heap, command: &Command) -> Option<Reason>
+    fn refusal_in_range(
+        &self,
+        heap: &Heap,
+        command: &Command,
+        found: Option<Found>,
+    ) -> Option<Reason>
         requires placed { IsPlaced self.now heap.now }
         requires in_range { is_above command.now ≡ false }
         ensures { result ≡ first_reason (checks_in_range (setup_of self.now heap.now) (seen_if self.now.types heap.now) command.now) }
@@ -93,12 +103,12 @@ impl Session {
                 type_id,
                 target,
             } => self.new_weak_refusal(heap, root, type_id, target),
-            Command::Put { root, item, .. } => self.item_refusal(heap, root, item),
-            Command::Get { root, item } => self.item_refusal(heap, root, item),
+            Command::Put { root, item, .. } => self.item_refusal(root, kind_found(found), item),
+            Command::Get { root, item } => self.item_refusal(root, kind_found(found), item),
             Command::Link { root, item, from } => {
-                self.reference_refusal(heap, root, from, root, item)
+                self.reference_refusal(root, from, kind_found(found), item)
             }
-            Command::Load { to, root, item } => self.reference_refusal(heap, to, root, root, item),
+            Command::Load { to, root, item } => self.reference_refusal(to, root, kind_found(found), item),
             Command::CopyRefs {
                 root,
                 item,
@@ -145,23 +155,22 @@ impl Session {
     }
 
     /// Of a whole number of the object in a slot.
-    fn item_refusal(&self, heap: &Heap, root: u32, item: u64) -> Option<Reason>
+    fn item_refusal(&self, root: u32, kind: Option<Kind>, item: u64) -> Option<Reason>
         requires { IsPlaced self.now heap.now }
         ensures { result ≡ first_reason (slots_checks self.now.settings.roots (root ∷ []) ++ int_checks ((seen_if self.now.types heap.now).kind root) item) }
     {
         if u64::from(root) >= self.settings.roots {
             return Some(Reason::NoRoot);
         }
-        int_refusal(self.kind_in(heap, root), item)
+        int_refusal(kind, item)
     }
 
     /// Of a reference of the object in a slot, where a command names two slots.
     fn reference_refusal(
         &self,
-        heap: &Heap,
         first: u32,
         second: u32,
-        root: u32,
+        kind: Option<Kind>,
         item: u64,
     ) -> Option<Reason>
         requires { IsPlaced self.now heap.now }
@@ -170,7 +179,7 @@ impl Session {
         if let Some(reason) = slots_refusal(self.settings.roots, first, second) {
             return Some(reason);
         }
-        ref_refusal(self.kind_in(heap, root), item)
+        ref_refusal(kind, item)
     }
 
     /// Of a copy of references, up to these ends of the two ranges of items.

@@ -10,7 +10,8 @@ ghost use Rattle.session_core.specs.Standing.{IsPlaced, StandsAt, Answers, Sets,
 
 use crate::commands::do_command;
 use crate::settings::with_setting;
-use heap_core::{Heap, HeapFault};
+use crate::told::found_for;
+use heap_core::{Found, Heap, HeapFault};
 use std::alloc::{AllocError, AllocFailed, Global};
 use std::marker::Model;
 use store_model::{Command, Item, Line, Reason, Settings, TypeInfo};
@@ -129,7 +130,8 @@ impl Session {
         requires { IsPlaced self.old heap.old }
         ensures answers { (at : Progress) → StandsAt self.old heap.old at → Answers at item.now self.new heap.new out.old.items out.new.items result }
     {
-        if let Some(reason) = self.refusal(heap, item) {
+        let found = found_for(heap, item);
+        if let Some(reason) = self.refusal(heap, item, found) {
             return Err(RunFault::Malformed(reason));
         }
         match *item {
@@ -142,7 +144,7 @@ impl Session {
                 Ok(()) => Ok(()),
                 Err(_) => Err(RunFault::OutOfMemory),
             },
-            Item::Command(command) => self.command(heap, &command, out),
+            Item::Command(command) => self.command(heap, &command, found, out),
         }
     }
 
@@ -151,6 +153,7 @@ impl Session {
         &mut self,
         heap: &mut Heap,
         command: &Command,
+        found: Option<Found>,
         out: &mut Vec<Line>,
     ) -> Result<(), RunFault>
         requires placed { IsPlaced self.old heap.old }
@@ -162,7 +165,7 @@ impl Session {
             Ok(()) => {}
             Err(fault) => return Err(run_fault(fault)),
         }
-        match do_command(heap, command, out) {
+        match do_command(heap, command, found, out) {
             Ok(()) => Ok(()),
             Err(fault) => Err(run_fault(fault)),
         }

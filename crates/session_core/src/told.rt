@@ -4,8 +4,23 @@ ghost use Rattle.object_model.specs.Setup.{type_at};
 ghost use Rattle.session_core.specs.Standing.{IsPlaced, setup_of, seen_if};
 
 use crate::session::Session;
-use heap_core::Heap;
-use store_model::{Kind, StructState, TypeInfo};
+use heap_core::{Found, Heap};
+use store_model::{Command, Item, Kind, StructState, TypeInfo};
+
+/// What is seen of the object whose items a command works on, if an item is such a command and that object is there. The
+/// refusals look at it, and the command is done with it.
+pub(crate) fn found_for(heap: &Heap, item: &Item) -> Option<Found>
+    requires { IsLooked heap.now }
+    ensures { result ≡ found_by heap.now item.now }
+{
+    match *item {
+        Item::Command(Command::Put { root, .. }) => heap.found(root),
+        Item::Command(Command::Get { root, .. }) => heap.found(root),
+        Item::Command(Command::Link { root, .. }) => heap.found(root),
+        Item::Command(Command::Load { root, .. }) => heap.found(root),
+        _ => None,
+    }
+}
 
 impl Session {
     /// The type of an id, if there is one.
