@@ -6,19 +6,19 @@ ghost use Rattle.text_model.specs.CommandGrammar.{command_form, new_form, copy_f
 ghost use Rattle.text_model.specs.ItemText.{joined, command_words};
 ghost use Rattle.text_model.specs.ItemLine.{StoresWord};
 ghost use Rattle.script_text.specs.Printing.{Extends};
-ghost use Rattle.script_text.specs.Words.{words_in};
+ghost use Rattle.script_text.specs.Words.{words_in, item_said};
 
 use crate::print::print_line;
 use crate::ranges::{item_number, slot_number, type_number};
 use crate::slots::{parse_slot_command, print_slot_command};
 use crate::words::{Words, five_numbers, one_number, take_number, three_numbers, two_numbers};
 use std::alloc::AllocError;
-use text_model::{BadLine, Command};
+use text_model::{BadLine, Command, Item};
 
 /// The command of a line, by its first word and the words behind it.
 #[tactic(auto, unfolding(text_model::specs::CommandGrammar::command_form))]
-pub fn parse_command(word: &[u8], words: Words<'_>) -> Result<Command, BadLine>
-    ensures { result ≡ command_form word.now (words_in words.entry) }
+pub fn parse_command(word: &[u8], words: Words<'_>) -> Result<Item, BadLine>
+    ensures { result ≡ item_said (command_form word.now (words_in words.entry)) }
 {
     if word == b"new".as_slice() {
         parse_new(words)
@@ -41,89 +41,89 @@ pub fn parse_command(word: &[u8], words: Words<'_>) -> Result<Command, BadLine>
 
 /// `new R T` and `new R T L`, behind the first word.
 #[tactic(auto, using(crate::proofs::Separated::new_tail_of_text), unfolding(text_model::specs::Range::is_above, text_model::specs::CommandGrammar::new_form))]
-fn parse_new(words: Words<'_>) -> Result<Command, BadLine>
-    ensures { result ≡ new_form (words_in words.entry) }
+fn parse_new(words: Words<'_>) -> Result<Item, BadLine>
+    ensures { result ≡ item_said (new_form (words_in words.entry)) }
 {
     let (root, words) = take_number(words)?;
     let (type_id, words) = take_number(words)?;
     if words.rest.is_none() {
         let root = slot_number(root)?;
         let type_id = type_number(type_id)?;
-        return Ok(Command::NewFixed { root, type_id });
+        return Ok(Item::Command(Command::NewFixed { root, type_id }));
     }
     let len = one_number(words)?;
     let root = slot_number(root)?;
     let type_id = type_number(type_id)?;
     let len = item_number(len)?;
-    Ok(Command::NewArray { root, type_id, len })
+    Ok(Item::Command(Command::NewArray { root, type_id, len }))
 }
 
 /// `weak R T S`
 #[tactic(auto, unfolding(text_model::specs::Range::is_above))]
-fn parse_weak(words: Words<'_>) -> Result<Command, BadLine>
-    ensures { result ≡ with_three NewWeak (words_in words.entry) }
+fn parse_weak(words: Words<'_>) -> Result<Item, BadLine>
+    ensures { result ≡ item_said (with_three NewWeak (words_in words.entry)) }
 {
     let (root, type_id, target) = three_numbers(words)?;
     let root = slot_number(root)?;
     let type_id = type_number(type_id)?;
     let target = slot_number(target)?;
-    Ok(Command::NewWeak {
+    Ok(Item::Command(Command::NewWeak {
         root,
         type_id,
         target,
-    })
+    }))
 }
 
 /// `put R I N`
 #[tactic(auto, unfolding(text_model::specs::Range::is_above))]
-fn parse_put(words: Words<'_>) -> Result<Command, BadLine>
-    ensures { result ≡ with_three Put (words_in words.entry) }
+fn parse_put(words: Words<'_>) -> Result<Item, BadLine>
+    ensures { result ≡ item_said (with_three Put (words_in words.entry)) }
 {
     let (root, item, value) = three_numbers(words)?;
     let root = slot_number(root)?;
     let item = item_number(item)?;
-    Ok(Command::Put { root, item, value })
+    Ok(Item::Command(Command::Put { root, item, value }))
 }
 
 /// `get R I`
 #[tactic(auto, unfolding(text_model::specs::Range::is_above))]
-fn parse_get(words: Words<'_>) -> Result<Command, BadLine>
-    ensures { result ≡ with_two Get (words_in words.entry) }
+fn parse_get(words: Words<'_>) -> Result<Item, BadLine>
+    ensures { result ≡ item_said (with_two Get (words_in words.entry)) }
 {
     let (root, item) = two_numbers(words)?;
     let root = slot_number(root)?;
     let item = item_number(item)?;
-    Ok(Command::Get { root, item })
+    Ok(Item::Command(Command::Get { root, item }))
 }
 
 /// `link R I S`
 #[tactic(auto, unfolding(text_model::specs::Range::is_above))]
-fn parse_link(words: Words<'_>) -> Result<Command, BadLine>
-    ensures { result ≡ with_three Link (words_in words.entry) }
+fn parse_link(words: Words<'_>) -> Result<Item, BadLine>
+    ensures { result ≡ item_said (with_three Link (words_in words.entry)) }
 {
     let (root, item, from) = three_numbers(words)?;
     let root = slot_number(root)?;
     let item = item_number(item)?;
     let from = slot_number(from)?;
-    Ok(Command::Link { root, item, from })
+    Ok(Item::Command(Command::Link { root, item, from }))
 }
 
 /// `load D R I`
 #[tactic(auto, unfolding(text_model::specs::Range::is_above))]
-fn parse_load(words: Words<'_>) -> Result<Command, BadLine>
-    ensures { result ≡ with_three Load (words_in words.entry) }
+fn parse_load(words: Words<'_>) -> Result<Item, BadLine>
+    ensures { result ≡ item_said (with_three Load (words_in words.entry)) }
 {
     let (to, root, item) = three_numbers(words)?;
     let to = slot_number(to)?;
     let root = slot_number(root)?;
     let item = item_number(item)?;
-    Ok(Command::Load { to, root, item })
+    Ok(Item::Command(Command::Load { to, root, item }))
 }
 
 /// `copyrefs R I S J M`
 #[tactic(auto, unfolding(text_model::specs::Range::is_above, text_model::specs::CommandGrammar::copy_form))]
-fn parse_copy(words: Words<'_>) -> Result<Command, BadLine>
-    ensures { result ≡ copy_form (words_in words.entry) }
+fn parse_copy(words: Words<'_>) -> Result<Item, BadLine>
+    ensures { result ≡ item_said (copy_form (words_in words.entry)) }
 {
     let (root, item, from, from_item, count) = five_numbers(words)?;
     let root = slot_number(root)?;
@@ -131,13 +131,13 @@ fn parse_copy(words: Words<'_>) -> Result<Command, BadLine>
     let from = slot_number(from)?;
     let from_item = item_number(from_item)?;
     let count = item_number(count)?;
-    Ok(Command::CopyRefs {
+    Ok(Item::Command(Command::CopyRefs {
         root,
         item,
         from,
         from_item,
         count,
-    })
+    }))
 }
 
 /// Appends the line of a command, with LF.

@@ -37,7 +37,7 @@ fn parse_form(line: &[u8]) -> Result<Item, BadLine>
     } else if word == b"type".as_slice() {
         parse_type(words)
     } else {
-        Ok(Item::Command(parse_command(word, words)?))
+        parse_command(word, words)
     }
 }
 

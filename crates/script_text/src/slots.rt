@@ -5,42 +5,42 @@ ghost use Rattle.text_model.specs.CommandGrammar.{slot_form};
 ghost use Rattle.text_model.specs.ItemText.{joined, command_words};
 ghost use Rattle.script_text.specs.Printing.{Extends};
 ghost use Rattle.script_text.specs.Groups.{is_object_command};
-ghost use Rattle.script_text.specs.Words.{words_in};
+ghost use Rattle.script_text.specs.Words.{words_in, item_said};
 
 use crate::print::print_line;
 use crate::ranges::{one_slot, slot_and_queue, two_slots};
 use crate::structures::{parse_structure_command, print_structure_command};
 use crate::words::Words;
 use std::alloc::AllocError;
-use text_model::{BadLine, Command};
+use text_model::{BadLine, Command, Item};
 
 /// The command of a line, by its first word and the words behind it.
 #[tactic(auto, unfolding(text_model::specs::Range::is_above, text_model::specs::CommandGrammar::slot_form))]
-pub fn parse_slot_command(word: &[u8], words: Words<'_>) -> Result<Command, BadLine>
-    ensures { result ≡ slot_form word.now (words_in words.entry) }
+pub fn parse_slot_command(word: &[u8], words: Words<'_>) -> Result<Item, BadLine>
+    ensures { result ≡ item_said (slot_form word.now (words_in words.entry)) }
 {
     if word == b"move".as_slice() {
-        two_slots(words).map(|(to, from)| Command::MoveRoot { to, from })
+        two_slots(words).map(|(to, from)| Item::Command(Command::MoveRoot { to, from }))
     } else if word == b"drop".as_slice() {
-        one_slot(words).map(|root| Command::DropRoot { root })
+        one_slot(words).map(|root| Item::Command(Command::DropRoot { root }))
     } else if word == b"same".as_slice() {
-        two_slots(words).map(|(a, b)| Command::Same { a, b })
+        two_slots(words).map(|(a, b)| Item::Command(Command::Same { a, b }))
     } else if word == b"id".as_slice() {
-        one_slot(words).map(|root| Command::Ident { root })
+        one_slot(words).map(|root| Item::Command(Command::Ident { root }))
     } else if word == b"hash".as_slice() {
-        one_slot(words).map(|root| Command::Hash { root })
+        one_slot(words).map(|root| Item::Command(Command::Hash { root }))
     } else if word == b"where".as_slice() {
-        one_slot(words).map(|root| Command::Place { root })
+        one_slot(words).map(|root| Item::Command(Command::Place { root }))
     } else if word == b"pin".as_slice() {
-        one_slot(words).map(|root| Command::Pin { root })
+        one_slot(words).map(|root| Item::Command(Command::Pin { root }))
     } else if word == b"unpin".as_slice() {
-        one_slot(words).map(|root| Command::Unpin { root })
+        one_slot(words).map(|root| Item::Command(Command::Unpin { root }))
     } else if word == b"deref".as_slice() {
-        two_slots(words).map(|(to, root)| Command::Deref { to, root })
+        two_slots(words).map(|(to, root)| Item::Command(Command::Deref { to, root }))
     } else if word == b"register".as_slice() {
-        slot_and_queue(words).map(|(root, queue)| Command::Register { root, queue })
+        slot_and_queue(words).map(|(root, queue)| Item::Command(Command::Register { root, queue }))
     } else if word == b"next".as_slice() {
-        slot_and_queue(words).map(|(to, queue)| Command::NextFinal { to, queue })
+        slot_and_queue(words).map(|(to, queue)| Item::Command(Command::NextFinal { to, queue }))
     } else {
         parse_structure_command(word, words)
     }

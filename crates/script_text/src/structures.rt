@@ -6,33 +6,33 @@ ghost use Rattle.text_model.specs.CommandGrammar.{structure_form, link_form, no_
 ghost use Rattle.text_model.specs.ItemText.{joined, command_words, link_word, light_word};
 ghost use Rattle.script_text.specs.Printing.{Extends};
 ghost use Rattle.script_text.specs.Groups.{is_structure_command};
-ghost use Rattle.script_text.specs.Words.{words_in};
+ghost use Rattle.script_text.specs.Words.{words_in, item_said};
 
 use crate::print::{print_line, print_numbers};
 use crate::ranges::{one_slot, own_number, slot_number, two_slots};
 use crate::words::{Words, one_number, take_end, take_kind, take_number};
 use std::alloc::AllocError;
-use text_model::{BadLine, Command};
+use text_model::{BadLine, Command, Item};
 
 /// The command of a line, by its first word and the words behind it.
 #[tactic(auto, unfolding(text_model::specs::Range::is_above, text_model::specs::CommandGrammar::structure_form))]
-pub fn parse_structure_command(word: &[u8], words: Words<'_>) -> Result<Command, BadLine>
-    ensures { result ≡ structure_form word.now (words_in words.entry) }
+pub fn parse_structure_command(word: &[u8], words: Words<'_>) -> Result<Item, BadLine>
+    ensures { result ≡ item_said (structure_form word.now (words_in words.entry)) }
 {
     if word == b"plink".as_slice() {
         parse_link(true, words)
     } else if word == b"olink".as_slice() {
         parse_link(false, words)
     } else if word == b"inc".as_slice() {
-        one_slot(words).map(|number| Command::Inc { number })
+        one_slot(words).map(|number| Item::Command(Command::Inc { number }))
     } else if word == b"dec".as_slice() {
-        one_slot(words).map(|number| Command::Dec { number })
+        one_slot(words).map(|number| Item::Command(Command::Dec { number }))
     } else if word == b"count".as_slice() {
-        one_slot(words).map(|number| Command::Count { number })
+        one_slot(words).map(|number| Item::Command(Command::Count { number }))
     } else if word == b"fromobj".as_slice() {
-        one_slot(words).map(|root| Command::FromObj { root })
+        one_slot(words).map(|root| Item::Command(Command::FromObj { root }))
     } else if word == b"toobj".as_slice() {
-        two_slots(words).map(|(to, number)| Command::ToObj { to, number })
+        two_slots(words).map(|(to, number)| Item::Command(Command::ToObj { to, number }))
     } else if word == b"nextdead".as_slice() {
         parse_bare(Command::NextDead, words)
     } else if word == b"minor".as_slice() {
@@ -50,8 +50,8 @@ pub fn parse_structure_command(word: &[u8], words: Words<'_>) -> Result<Command,
 
 /// `plink C R K N` and `olink C R K N`, behind the first word.
 #[tactic(auto, unfolding(text_model::specs::Range::is_above, text_model::specs::CommandGrammar::link_form))]
-fn parse_link(p: bool, words: Words<'_>) -> Result<Command, BadLine>
-    ensures { result ≡ link_form p (words_in words.entry) }
+fn parse_link(p: bool, words: Words<'_>) -> Result<Item, BadLine>
+    ensures { result ≡ item_said (link_form p (words_in words.entry)) }
 {
     let (number, words) = take_number(words)?;
     let (root, words) = take_number(words)?;
@@ -60,22 +60,22 @@ fn parse_link(p: bool, words: Words<'_>) -> Result<Command, BadLine>
     let number = slot_number(number)?;
     let root = slot_number(root)?;
     let own = own_number(own)?;
-    Ok(Command::MakeLink {
+    Ok(Item::Command(Command::MakeLink {
         p,
         number,
         root,
         light,
         own,
-    })
+    }))
 }
 
 /// A command that has no numbers.
-fn parse_bare(command: Command, words: Words<'_>) -> Result<Command, BadLine>
+fn parse_bare(command: Command, words: Words<'_>) -> Result<Item, BadLine>
     requires { is_above command ≡ false }
-    ensures { result ≡ no_numbers command (words_in words.entry) }
+    ensures { result ≡ item_said (no_numbers command (words_in words.entry)) }
 {
     take_end(words)?;
-    Ok(command)
+    Ok(Item::Command(command))
 }
 
 /// Appends the line of a command on C structures or on the collector, with LF.

@@ -1,12 +1,12 @@
 //! The words of a line, each of which a space ends or the end of the line. What is still to be read is the part of the
 //! line behind the last space that was met.
 
-ghost use Rattle.std.specs.Prelude.{◌≡◌, ◌∷◌, codes, ◌^◌};
+ghost use Rattle.std.specs.Prelude.{◌≡◌, ◌∷◌, codes, ◌^◌, length};
 ghost use Rattle.text_model.specs.Numbers.{words_of, number_word, no_word, one_number, two_numbers, three_numbers, five_numbers};
 ghost use Rattle.text_model.specs.CommandGrammar.{kind_word};
-ghost use Rattle.script_text.specs.Words.{words_in, Gives};
+ghost use Rattle.script_text.specs.Words.{words_in, first_word, Gives};
 
-use crate::numbers::parse_number;
+use crate::numbers::first_number;
 use text_model::BadLine;
 
 /// The words that are still to be read.
@@ -36,11 +36,22 @@ pub fn take_number(words: Words<'_>) -> Result<(u64, Words<'_>), BadLine>
     let Some(text) = words.rest else {
         return Err(BadLine::Syntax);
     };
-    let (word, behind) = split_word(text);
-    match parse_number(word) {
-        Some(number) => Ok((number, behind)),
+    match first_number(text) {
+        Some((number, length)) => Ok((number, words_behind(text, length))),
         None => Err(BadLine::Syntax),
     }
+}
+
+/// The words behind the first one, which is so long.
+fn words_behind(text: &[u8], at: usize) -> Words<'_>
+    requires { at ≡ length (first_word text.now) }
+    ensures { words_of text.now ≡ first_word text.now ∷ words_in result }
+{
+    if at < text.len() {
+        let rest = Some(&text[at + 1..]);
+        return Words { rest };
+    }
+    Words { rest: None }
 }
 
 /// That no word is left.
