@@ -11,10 +11,10 @@ use Rattle.store_model.specs.Store.{Struct, Linked, Unlinked, Pending}
 use Rattle.object_model.specs.Sets.{is_in}
 use Rattle.store_model.specs.Structs.{Structs, object_of, with_object, with_objects}
 use Rattle.remember_cards.specs.Remembered.{Held, Remembered, holds_item, is_held_of}
-use Rattle.heap_parts.specs.NamedFinals.{NamedFinals}
-use Rattle.heap_parts.specs.Places.{AreAmong}
-use Rattle.heap_parts.specs.Lists.{named_entries, named_queues, HoldsList, HoldsEntries, HoldsQueues, HoldsLinks}
-use Rattle.heap_parts.specs.StandsFor.{HoldsFinalizers}
+use Rattle.parts_model.specs.NamedFinals.{NamedFinals}
+use Rattle.parts_model.specs.Places.{AreAmong}
+use Rattle.parts_model.specs.Lists.{named_entries, named_queues, HoldsList, HoldsEntries, HoldsQueues, HoldsLinks}
+use Rattle.parts_model.specs.StandsFor.{HoldsFinalizers}
 use Rattle.store_model.proofs.StructLaws.{behind-first, first-value}
 
 -- names agree on these places

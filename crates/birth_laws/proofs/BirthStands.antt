@@ -32,17 +32,17 @@ use Rattle.store_model.specs.Roots.{is_kept}
 use Rattle.object_model.specs.ObjectWords.{renamed, updated, words_at, info_at, layout_at}
 use Rattle.object_model.specs.Holds.{HoldsObjects, IsPointer}
 use Rattle.store_model.specs.MarkingOrder.{IsInOrder}
-use Rattle.heap_parts.specs.Parts.{HeapParts, word_in, home_in}
+use Rattle.parts_model.specs.Parts.{HeapParts, word_in, home_in}
 use Rattle.remember_cards.specs.Remembered.{Held, Remembered, has_any, is_held_whole, has_held_cards, is_held_of}
-use Rattle.heap_parts.specs.Places.{is_young, young_places, old_places, AreWhole, AreAmong, OfFirsts, RiseBetween, is_weak_at}
-use Rattle.heap_parts.specs.Nursery.{HoldsNursery, IsUngapped}
-use Rattle.heap_parts.specs.OldSpace.{HoldsBlocks, reserved_homes, is_waiting}
-use Rattle.heap_parts.specs.Headers.{IsSettledHeader, IsShadowHeader, IsYoungHeader, is_marked, IsCarded, keeps_cards}
-use Rattle.heap_parts.specs.Lists.{HoldsSlots}
-use Rattle.heap_parts.specs.StandsFor.{PartsStandFor}
+use Rattle.parts_model.specs.Places.{is_young, young_places, old_places, AreWhole, AreAmong, OfFirsts, RiseBetween, is_weak_at}
+use Rattle.parts_model.specs.Nursery.{HoldsNursery, IsUngapped}
+use Rattle.parts_model.specs.OldSpace.{HoldsBlocks, reserved_homes, is_waiting}
+use Rattle.parts_model.specs.Headers.{IsSettledHeader, IsShadowHeader, IsYoungHeader, is_marked, IsCarded, keeps_cards}
+use Rattle.parts_model.specs.Lists.{HoldsSlots}
+use Rattle.parts_model.specs.StandsFor.{PartsStandFor}
 use Rattle.frame_laws.proofs.Births.{rise-more}
 use Rattle.frame_laws.proofs.PlaceLaws.{placed_words, young-is_in, old-is_in, is_in-young, is_in-old, young-more, old-more, young-same, old-same, filter-more, filter-same}
-use Rattle.heap_parts.proofs.SameLayouts.{sum-same, sum-more}
+use Rattle.parts_model.proofs.SameLayouts.{sum-same, sum-more}
 use Rattle.frame_laws.proofs.KeepWords.{SameWords, firsts-stay, headers_kept, young_flags_kept, remembered_kept, husks_kept}
 use Rattle.store_model.proofs.OrderLaws.{plain_in_order}
 use Rattle.frame_laws.proofs.RootStands.{slots-set}

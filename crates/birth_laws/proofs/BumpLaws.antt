@@ -16,8 +16,8 @@ use Rattle.nursery_gaps.specs.Nursery.{Layout as NurseryLayout, HandsOut, Fits, 
 use Rattle.object_model.proofs.Members.{is_in-append}
 use Rattle.object_model.specs.Layout.{Layout}
 use Rattle.object_model.specs.ObjectWords.{words_at}
-use Rattle.heap_parts.specs.Nursery.{IsWalk, AreWalks, walked, HoldsNursery, IsUngapped}
-use Rattle.heap_parts.proofs.SameLayouts.{SameLayouts}
+use Rattle.parts_model.specs.Nursery.{IsWalk, AreWalks, walked, HoldsNursery, IsUngapped}
+use Rattle.parts_model.proofs.SameLayouts.{SameLayouts}
 use Rattle.frame_laws.proofs.KeepWords.{walks-same}
 
 -- walks of joined ranges

@@ -28,15 +28,15 @@ use Rattle.store_model.specs.Store.{Store}
 use Rattle.object_model.specs.Sets.{is_in}
 use Rattle.object_model.specs.ObjectWords.{updated, words_at, Covers}
 use Rattle.object_model.specs.Holds.{HoldsObjects, IsPointer}
-use Rattle.heap_parts.specs.Parts.{HeapParts, word_in, home_in}
-use Rattle.heap_parts.specs.Places.{is_young, young_places, old_places, block_at}
-use Rattle.heap_parts.specs.Nursery.{HoldsNursery}
-use Rattle.heap_parts.specs.OldSpace.{reserved_blocks, blocks_of, is_waiting}
-use Rattle.heap_parts.specs.StandsFor.{PartsStandFor}
+use Rattle.parts_model.specs.Parts.{HeapParts, word_in, home_in}
+use Rattle.parts_model.specs.Places.{is_young, young_places, old_places, block_at}
+use Rattle.parts_model.specs.Nursery.{HoldsNursery}
+use Rattle.parts_model.specs.OldSpace.{reserved_blocks, blocks_of, is_waiting}
+use Rattle.parts_model.specs.StandsFor.{PartsStandFor}
 use Rattle.frame_laws.proofs.Births.{rise-bounds}
 use Rattle.frame_laws.proofs.Members.{each-left, each-right}
 use Rattle.frame_laws.proofs.PlaceLaws.{is_in-young, is_in-old, young-same, old-more}
-use Rattle.heap_parts.proofs.BlockLaws.{each-member}
+use Rattle.parts_model.proofs.BlockLaws.{each-member}
 use Rattle.frame_laws.proofs.ReserveLaws.{last-apart}
 use Rattle.frame_laws.proofs.TakeLaws.{MemoryKeeps, memory_same, memory_kept}
 use Rattle.birth_laws.proofs.SpareLaws.{spare_keeps, run_within}

@@ -14,11 +14,11 @@ use Rattle.old_space.specs.HasBlocks.{HasBlocks, IsBlock}
 use Rattle.old_space.specs.declared.Old.{Old}
 use Rattle.old_space.proofs.JoinLaws.{HasBlocks-blocks, HasBlocks-apart, HasBlocks_untouched}
 use Rattle.object_model.specs.Object.{Object}
-use Rattle.heap_parts.specs.Places.{young_places, old_places, block_at}
-use Rattle.heap_parts.specs.OldSpace.{reserved_blocks, blocks_of}
-use Rattle.heap_parts.specs.StandsFor.{HoldsWords}
+use Rattle.parts_model.specs.Places.{young_places, old_places, block_at}
+use Rattle.parts_model.specs.OldSpace.{reserved_blocks, blocks_of}
+use Rattle.parts_model.specs.StandsFor.{HoldsWords}
 use Rattle.frame_laws.proofs.Members.{each-right}
-use Rattle.heap_parts.proofs.BlockLaws.{lies-kept, extents-with_run}
+use Rattle.parts_model.proofs.BlockLaws.{lies-kept, extents-with_run}
 use Rattle.frame_laws.proofs.ReserveLaws.{last-apart}
 use Rattle.frame_laws.proofs.TakeLaws.{MemoryKeeps, taken_spare}
 

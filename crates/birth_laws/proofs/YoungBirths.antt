@@ -37,15 +37,15 @@ use Rattle.store_model.specs.Roots.{is_kept}
 use Rattle.object_model.specs.Sets.{is_in}
 use Rattle.object_model.specs.ObjectWords.{updated, renamed, target_of, words_at, Covers}
 use Rattle.object_model.specs.Holds.{HoldsObjects, IsPointer}
-use Rattle.heap_parts.specs.Parts.{HeapParts, word_in, home_in}
-use Rattle.heap_parts.specs.Places.{is_young, young_places, old_places, block_at}
-use Rattle.heap_parts.specs.Nursery.{IsWalk, AreWalks, walked, HoldsNursery}
-use Rattle.heap_parts.specs.OldSpace.{reserved_block, reserved_blocks, blocks_of}
-use Rattle.heap_parts.specs.StandsFor.{PartsStandFor}
+use Rattle.parts_model.specs.Parts.{HeapParts, word_in, home_in}
+use Rattle.parts_model.specs.Places.{is_young, young_places, old_places, block_at}
+use Rattle.parts_model.specs.Nursery.{IsWalk, AreWalks, walked, HoldsNursery}
+use Rattle.parts_model.specs.OldSpace.{reserved_block, reserved_blocks, blocks_of}
+use Rattle.parts_model.specs.StandsFor.{PartsStandFor}
 use Rattle.frame_laws.proofs.Births.{rise-bounds}
 use Rattle.frame_laws.proofs.Members.{each-left, each-right}
 use Rattle.frame_laws.proofs.PlaceLaws.{young-is_in, is_in-young, is_in-old, young-more, old-same}
-use Rattle.heap_parts.proofs.BlockLaws.{each-member, blocks-written}
+use Rattle.parts_model.proofs.BlockLaws.{each-member, blocks-written}
 use Rattle.frame_laws.proofs.WriteWords.{each-reserved}
 use Rattle.frame_laws.proofs.KeepWords.{SameWords, blocks_same}
 use Rattle.birth_laws.proofs.BumpLaws.{nursery_more, ungapped_more}

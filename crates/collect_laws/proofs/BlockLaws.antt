@@ -4,9 +4,9 @@ use Rattle.text_model.specs.declared.line.Line.{Line}
 use Rattle.object_model.specs.Setup.{Setup}
 use Rattle.store_model.specs.Store.{Store}
 use Rattle.store_model.specs.Collections.{Block, MajorStep, When, always, is_step_due}
-use Rattle.heap_parts.specs.Parts.{HeapParts}
-use Rattle.heap_parts.specs.StandsFor.{PartsStandFor}
-use Rattle.heap_parts.specs.Collects.{IsCollected, CollectsMinor, StepsMajor}
+use Rattle.parts_model.specs.Parts.{HeapParts}
+use Rattle.parts_model.specs.StandsFor.{PartsStandFor}
+use Rattle.parts_model.specs.Collects.{IsCollected, CollectsMinor, StepsMajor}
 use Rattle.collect_laws.specs.Events.{EventOf, Undergoes, Underwent}
 use Rattle.collect_laws.specs.Tests.{is_step_due_in, needs_block_in, exceeds_limit_in}
 use Rattle.collect_laws.specs.Collections.{CollectsStep, CollectsBlock, CollectsAll, MakesNurseryRoom, MakesLimitRoom, MakesRoomFor}

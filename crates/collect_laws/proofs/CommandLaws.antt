@@ -21,9 +21,9 @@ use Rattle.store_model.specs.Refusal.{command_checks}
 use Rattle.store_model.specs.Progress.{Progress, after_command}
 use Rattle.store_model.specs.Transcript.{CommandExceeds}
 use Rattle.text_model.specs.Range.{is_above}
-use Rattle.heap_parts.specs.Parts.{HeapParts}
-use Rattle.heap_parts.specs.StandsFor.{PartsStandFor}
-use Rattle.heap_parts.specs.Collects.{CollectsMinor}
+use Rattle.parts_model.specs.Parts.{HeapParts}
+use Rattle.parts_model.specs.StandsFor.{PartsStandFor}
+use Rattle.parts_model.specs.Collects.{CollectsMinor}
 use Rattle.collect_laws.specs.Events.{EventOf, Undergoes, Doing}
 use Rattle.collect_laws.specs.Collections.{CollectsStep, CollectsAll, MakesRoomFor}
 use Rattle.collect_laws.specs.Room.{HasRoomFor, FindsNoRoom, IsCommandRefused, BearsOne}

@@ -10,9 +10,9 @@ use Rattle.object_model.specs.ObjectWords.{object_from}
 use Rattle.store_model.specs.Store.{Store}
 use Rattle.store_model.specs.Sound.{IsSound}
 use Rattle.store_model.specs.Collections.{Block, always, Cycle, Last, More, TwoCycles, CollectFrom}
-use Rattle.heap_parts.specs.Parts.{HeapParts, word_in}
-use Rattle.heap_parts.specs.Places.{RiseBetween}
-use Rattle.heap_parts.specs.StandsFor.{PartsStandFor}
+use Rattle.parts_model.specs.Parts.{HeapParts, word_in}
+use Rattle.parts_model.specs.Places.{RiseBetween}
+use Rattle.parts_model.specs.StandsFor.{PartsStandFor}
 use Rattle.collect_laws.specs.Events.{Undergoes}
 use Rattle.collect_laws.specs.Collections.{CollectsStep, CollectsCycle, CollectsAll}
 use Rattle.collect_laws.proofs.TestLaws.{counted_in}

@@ -6,8 +6,8 @@ use Rattle.text_model.specs.declared.line.Line.{Line}
 use Rattle.object_model.specs.Setup.{Setup, young_words}
 use Rattle.store_model.specs.Store.{Store}
 use Rattle.store_model.specs.Collections.{needs_block}
-use Rattle.heap_parts.specs.Parts.{HeapParts}
-use Rattle.heap_parts.specs.StandsFor.{PartsStandFor}
+use Rattle.parts_model.specs.Parts.{HeapParts}
+use Rattle.parts_model.specs.StandsFor.{PartsStandFor}
 use Rattle.collect_laws.specs.Tests.{needs_block_in, exceeds_limit_in}
 use Rattle.collect_laws.specs.Collections.{MakesRoomFor}
 use Rattle.collect_laws.specs.Room.{HasRoomFor, FindsNoRoom}

@@ -4,8 +4,8 @@ use Rattle.std.specs.Prelude.{not, ◌||◌, nat_lt, nat_le}
 use Rattle.text_model.specs.declared.line.Phase.{Phase}
 use Rattle.store_model.specs.Store.{Store, counted_words}
 use Rattle.store_model.specs.Collections.{is_scanning, is_step_due, needs_block, exceeds_limit}
-use Rattle.heap_parts.specs.Parts.{HeapParts}
-use Rattle.heap_parts.specs.StandsFor.{PartsStandFor}
+use Rattle.parts_model.specs.Parts.{HeapParts}
+use Rattle.parts_model.specs.StandsFor.{PartsStandFor}
 use Rattle.frame_laws.proofs.PlaceLaws.{placed_words}
 use Rattle.collect_laws.specs.Tests.{is_step_due_in, needs_block_in, exceeds_limit_in}
 

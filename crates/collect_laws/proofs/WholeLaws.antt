@@ -18,8 +18,8 @@ use Rattle.store_model.specs.CollectionBounds.{CollectsWhole, steps_told, most_s
 use Rattle.store_model.specs.Sound.{IsSound, IsPhaseSound}
 use Rattle.store_model.proofs.StepsSound.{few_births, sound_minor, sound_step}
 use Rattle.store_model.proofs.WholeCollections.{collect_retains, no_room_retained}
-use Rattle.heap_parts.specs.Parts.{HeapParts}
-use Rattle.heap_parts.specs.StandsFor.{PartsStandFor}
+use Rattle.parts_model.specs.Parts.{HeapParts}
+use Rattle.parts_model.specs.StandsFor.{PartsStandFor}
 use Rattle.collect_laws.specs.Retained.{RoomRetained, BirthRetained, RefusalRetained}
 use Rattle.collect_laws.proofs.StepCount.{told_steps}
 use Rattle.collect_laws.proofs.StepsAhead.{steps_from, sweeps_of, unseen_words, div-mono, all_words}

@@ -3,7 +3,7 @@ use Rattle.std.specs.Prelude.{ℕ, Bool, List}
 use Rattle.text_model.specs.declared.line.Line.{Line}
 use Rattle.store_model.specs.Store.{Store}
 use Rattle.store_model.specs.Collections.{Block, always, is_step_due, Cycle, Collect, When, needs_block, exceeds_limit, MakesRoom}
-use Rattle.heap_parts.specs.Parts.{HeapParts}
+use Rattle.parts_model.specs.Parts.{HeapParts}
 use Rattle.collect_laws.specs.Events.{EventOf, Undergoes}
 
 -- a minor collection, and a major step where the test says so of the store in between

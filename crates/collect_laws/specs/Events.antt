@@ -5,8 +5,8 @@ use Rattle.text_model.specs.declared.command.Command.{Command}
 use Rattle.object_model.specs.Setup.{Setup}
 use Rattle.store_model.specs.Store.{Store}
 use Rattle.store_model.specs.Steps.{Does}
-use Rattle.heap_parts.specs.Parts.{HeapParts}
-use Rattle.heap_parts.specs.StandsFor.{PartsStandFor}
+use Rattle.parts_model.specs.Parts.{HeapParts}
+use Rattle.parts_model.specs.StandsFor.{PartsStandFor}
 
 -- the lines that an event may print from a store on, and the store to which it then leads
 abbrev pub EventOf : Type 1

@@ -9,7 +9,7 @@ use Rattle.store_model.specs.Birth.{BirthOf}
 use Rattle.store_model.specs.Births.{words_asked}
 use Rattle.store_model.specs.Collections.{HasNoRoom}
 use Rattle.store_model.specs.Store.{Store, counted_words}
-use Rattle.heap_parts.specs.Parts.{HeapParts}
+use Rattle.parts_model.specs.Parts.{HeapParts}
 use Rattle.collect_laws.specs.Events.{EventOf, Undergoes}
 
 -- An object of so many words can be born now: within the limit, and in the nursery where it is not too large for that, unless

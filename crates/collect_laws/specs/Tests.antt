@@ -1,7 +1,7 @@
 -- What the code tests on the parts of a heap before it collects.
 use Rattle.std.specs.Prelude.{ℕ, ◌+◌, Bool, not, ◌||◌, nat_lt, nat_le}
 use Rattle.store_model.specs.Collections.{is_scanning}
-use Rattle.heap_parts.specs.Parts.{HeapParts}
+use Rattle.parts_model.specs.Parts.{HeapParts}
 
 -- whether the major step of an automatic block is due
 abbrev pub is_step_due_in : HeapParts → Bool

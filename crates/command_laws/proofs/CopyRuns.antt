@@ -21,11 +21,11 @@ use Rattle.store_model.specs.Steps.{ref_at, put_ref}
 use Rattle.store_model.specs.PlainCommands.{copy_refs}
 use Rattle.store_model.proofs.CopyLaws.{copy-none, copy-on, copy-back, refs_in_slot}
 use Rattle.remember_cards.specs.Remembered.{Held, holds_item, is_held}
-use Rattle.heap_parts.specs.Parts.{HeapParts, word_in, place_in}
-use Rattle.heap_parts.specs.Places.{is_young}
-use Rattle.heap_parts.specs.StandsFor.{PartsStandFor}
-use Rattle.heap_parts.specs.Effects.{ref_place, layout_in}
-use Rattle.heap_parts.specs.Copies.{heap_with, with_copy}
+use Rattle.parts_model.specs.Parts.{HeapParts, word_in, place_in}
+use Rattle.parts_model.specs.Places.{is_young}
+use Rattle.parts_model.specs.StandsFor.{PartsStandFor}
+use Rattle.parts_model.specs.Effects.{ref_place, layout_in}
+use Rattle.parts_model.specs.Copies.{heap_with, with_copy}
 use Rattle.object_model.proofs.Members.{or_cases, or_first, or_second}
 use Rattle.frame_laws.proofs.PlaceLaws.{settled-old}
 use Rattle.frame_laws.proofs.StandLaws.{in_slot}

@@ -9,9 +9,9 @@ use Rattle.store_model.specs.Slots.{object_in}
 use Rattle.store_model.specs.Steps.{ref_at, put_ref}
 use Rattle.store_model.specs.Roots.{referents_in}
 use Rattle.remember_cards.specs.Remembered.{is_held_of}
-use Rattle.heap_parts.specs.Parts.{HeapParts, word_in, place_in}
-use Rattle.heap_parts.specs.StandsFor.{PartsStandFor}
-use Rattle.heap_parts.specs.Effects.{with_word_at, ref_place, layout_in}
+use Rattle.parts_model.specs.Parts.{HeapParts, word_in, place_in}
+use Rattle.parts_model.specs.StandsFor.{PartsStandFor}
+use Rattle.parts_model.specs.Effects.{with_word_at, ref_place, layout_in}
 use Rattle.frame_laws.proofs.StandLaws.{in_slot, link_stands}
 use Rattle.store_model.proofs.RootLaws.{held_root, can_root, can_refer}
 use Rattle.frame_laws.proofs.RootStands.{ref_is}

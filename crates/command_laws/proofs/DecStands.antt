@@ -9,8 +9,8 @@ use Rattle.store_model.specs.Store.{Store, Struct, Linked, Unlinked, Pending}
 use Rattle.object_model.specs.Sets.{is_in}
 use Rattle.store_model.specs.Structs.{object_of, forced_object, with_object, with_objects, lowered, take_dead, with_struct}
 use Rattle.store_model.specs.PlainCommands.{lower_struct, lowered_at, take_dead_struct}
-use Rattle.heap_parts.specs.Parts.{HeapParts}
-use Rattle.heap_parts.specs.StandsFor.{PartsStandFor}
+use Rattle.parts_model.specs.Parts.{HeapParts}
+use Rattle.parts_model.specs.StandsFor.{PartsStandFor}
 use Rattle.store_model.proofs.RootLaws.{relieves_none, can_root, are_roots}
 use Rattle.store_model.proofs.StructLaws.{PutsAt, forced-found, with_value-objects}
 use Rattle.frame_laws.proofs.StructStands.{with_links, struct_stands, struct-named}

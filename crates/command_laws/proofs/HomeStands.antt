@@ -12,14 +12,14 @@ use Rattle.old_space.specs.declared.Old.{Old}
 use Rattle.old_space.proofs.JoinLaws.{HasBlocks-blocks, HasBlocks-apart}
 use Rattle.store_model.specs.Store.{Store}
 use Rattle.object_model.specs.Sets.{is_in}
-use Rattle.heap_parts.specs.Parts.{HeapParts, word_in, home_in}
-use Rattle.heap_parts.specs.Places.{is_young, young_places, old_places, block_at}
-use Rattle.heap_parts.specs.OldSpace.{reserved_blocks}
-use Rattle.heap_parts.specs.StandsFor.{PartsStandFor}
+use Rattle.parts_model.specs.Parts.{HeapParts, word_in, home_in}
+use Rattle.parts_model.specs.Places.{is_young, young_places, old_places, block_at}
+use Rattle.parts_model.specs.OldSpace.{reserved_blocks}
+use Rattle.parts_model.specs.StandsFor.{PartsStandFor}
 use Rattle.frame_laws.proofs.Members.{each-left, each-right, apart-both}
 use Rattle.object_model.proofs.Members.{in-left}
 use Rattle.frame_laws.proofs.PlaceLaws.{young-is_in, old-is_in}
-use Rattle.heap_parts.proofs.BlockLaws.{each-member}
+use Rattle.parts_model.proofs.BlockLaws.{each-member}
 use Rattle.frame_laws.proofs.KeepWords.{firsts-stay, headers_kept, young_flags_kept, remembered_kept}
 use Rattle.frame_laws.proofs.WriteWords.{each-imp, each-both, each-reserved}
 use Rattle.frame_laws.proofs.TakeLaws.{MemoryKeeps, memory_same, memory_kept}

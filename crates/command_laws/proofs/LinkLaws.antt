@@ -11,10 +11,10 @@ use Rattle.store_model.specs.Slots.{held}
 use Rattle.store_model.specs.Steps.{put_ref}
 use Rattle.object_model.specs.ObjectWords.{renamed}
 use Rattle.remember_cards.specs.Remembered.{Held, is_held_of, holds_item, with_whole}
-use Rattle.heap_parts.specs.Parts.{HeapParts, place_in}
-use Rattle.heap_parts.specs.Places.{old_places}
-use Rattle.heap_parts.specs.StandsFor.{PartsStandFor}
-use Rattle.heap_parts.specs.Effects.{with_barrier, with_word_at, ref_place, layout_in}
+use Rattle.parts_model.specs.Parts.{HeapParts, place_in}
+use Rattle.parts_model.specs.Places.{old_places}
+use Rattle.parts_model.specs.StandsFor.{PartsStandFor}
+use Rattle.parts_model.specs.Effects.{with_barrier, with_word_at, ref_place, layout_in}
 use Rattle.frame_laws.proofs.SlotLaws.{held-named, slot-pointer}
 use Rattle.frame_laws.proofs.HeldLaws.{whole_here}
 use Rattle.frame_laws.proofs.BarrierLaws.{barrier_stands}

@@ -17,11 +17,11 @@ use Rattle.object_model.specs.Fields.{refs_of}
 use Rattle.store_model.specs.Roots.{target_in, roots_of}
 use Rattle.store_model.specs.Identity.{can_refer, pin_count, pinned_more, has_pin_room, pinned_with}
 use Rattle.object_model.specs.ObjectWords.{words_from, renamed, info_at, layout_at, object_from}
-use Rattle.heap_parts.specs.Parts.{HeapParts, word_in, place_in}
-use Rattle.heap_parts.specs.Places.{is_young, young_places}
-use Rattle.heap_parts.specs.Headers.{IsYoungHeader}
-use Rattle.heap_parts.specs.Lists.{named_entries}
-use Rattle.heap_parts.specs.StandsFor.{PartsStandFor}
+use Rattle.parts_model.specs.Parts.{HeapParts, word_in, place_in}
+use Rattle.parts_model.specs.Places.{is_young, young_places}
+use Rattle.parts_model.specs.Headers.{IsYoungHeader}
+use Rattle.parts_model.specs.Lists.{named_entries}
+use Rattle.parts_model.specs.StandsFor.{PartsStandFor}
 use Rattle.frame_laws.proofs.PlaceLaws.{young-is_in, settled-old, is_in-young}
 use Rattle.frame_laws.proofs.StandLaws.{in_slot}
 use Rattle.store_model.proofs.RootLaws.{held_root, are_roots, RootChange}

@@ -11,16 +11,16 @@ use Rattle.store_model.specs.Look.{is_held_in}
 use Rattle.store_model.specs.Sound.{waiting_births}
 use Rattle.store_model.specs.Roots.{registered_births}
 use Rattle.store_model.specs.PlainCommands.{register_slot, registered_with, first_of, without_first, next_of, take_next}
-use Rattle.heap_parts.specs.NamedFinals.{NamedFinals}
-use Rattle.heap_parts.specs.Effects.{with_slot}
-use Rattle.heap_parts.specs.Parts.{HeapParts, place_in}
-use Rattle.heap_parts.specs.Registers.{with_final, with_registered, next_place, less_final, without_next}
-use Rattle.heap_parts.specs.Lists.{named_queues, HoldsSlots}
-use Rattle.heap_parts.specs.StandsFor.{PartsStandFor}
+use Rattle.parts_model.specs.NamedFinals.{NamedFinals}
+use Rattle.parts_model.specs.Effects.{with_slot}
+use Rattle.parts_model.specs.Parts.{HeapParts, place_in}
+use Rattle.parts_model.specs.Registers.{with_final, with_registered, next_place, less_final, without_next}
+use Rattle.parts_model.specs.Lists.{named_queues, HoldsSlots}
+use Rattle.parts_model.specs.StandsFor.{PartsStandFor}
 use Rattle.frame_laws.proofs.StandLaws.{in_slot}
 use Rattle.store_model.proofs.RootLaws.{held_root, can_root, RootChange}
 use Rattle.store_model.proofs.RootChanges.{register_change, next_change}
-use Rattle.heap_parts.proofs.QueueTables.{value-told, with-told, without-told}
+use Rattle.parts_model.proofs.QueueTables.{value-told, with-told, without-told}
 use Rattle.frame_laws.proofs.RootStands.{rooted_stands, slots-set}
 use Rattle.frame_laws.proofs.ReviveStands.{place_or_nil, renamed-full}
 use Rattle.store_model.proofs.QueueLaws.{first-less, first-queued, first-is}

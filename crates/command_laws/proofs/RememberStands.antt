@@ -10,12 +10,12 @@ use Rattle.object_model.specs.Layout.{Layout}
 use Rattle.store_model.specs.Store.{Store}
 use Rattle.object_model.specs.Sets.{is_in}
 use Rattle.remember_cards.specs.Remembered.{Remembered, RemembersMore, held_places}
-use Rattle.heap_parts.specs.Parts.{HeapParts, word_in}
-use Rattle.heap_parts.specs.Places.{is_young, young_places, old_places, AreAmong}
-use Rattle.heap_parts.specs.Headers.{IsSettledHeader, keeps_cards}
+use Rattle.parts_model.specs.Parts.{HeapParts, word_in}
+use Rattle.parts_model.specs.Places.{is_young, young_places, old_places, AreAmong}
+use Rattle.parts_model.specs.Headers.{IsSettledHeader, keeps_cards}
 use Rattle.remember_cards.specs.Tracking.{IsTracked}
-use Rattle.heap_parts.specs.StandsFor.{PartsStandFor}
-use Rattle.heap_parts.specs.Effects.{with_word_at}
+use Rattle.parts_model.specs.StandsFor.{PartsStandFor}
+use Rattle.parts_model.specs.Effects.{with_word_at}
 use Rattle.frame_laws.proofs.PlaceLaws.{young-is_in, old-is_in}
 use Rattle.frame_laws.proofs.KeepWords.{firsts-stay}
 use Rattle.frame_laws.proofs.BarrierLaws.{firsts-but}

@@ -20,8 +20,8 @@ use Rattle.object_model.specs.Sets.{is_in}
 use Rattle.object_model.specs.SettingRanges.{AreInRange}
 use Rattle.object_model.specs.ObjectWords.{renamed}
 use Rattle.object_model.specs.Holds.{IsPointer}
-use Rattle.heap_parts.specs.Parts.{HeapParts, started_parts, AreFresh, word_in}
-use Rattle.heap_parts.specs.StandsFor.{PartsStandFor}
+use Rattle.parts_model.specs.Parts.{HeapParts, started_parts, AreFresh, word_in}
+use Rattle.parts_model.specs.StandsFor.{PartsStandFor}
 use Rattle.store_model.proofs.EmptySound.{none, empty_sound}
 
 nil-slots : (roots : ℕ) → replicate roots None ≡ map (renamed (λ (p : ℕ). p)) (replicate roots 0)

@@ -9,11 +9,11 @@ use Rattle.object_header.proofs.WordLaws.{has_flag-without_flag_same, has_flag-w
 use Rattle.store_model.specs.Store.{Store}
 use Rattle.object_model.specs.Sets.{is_in}
 use Rattle.store_model.specs.Identity.{pin_count, pinned_less, without_held, unpin_slot}
-use Rattle.heap_parts.specs.Parts.{HeapParts, word_in, place_in}
-use Rattle.heap_parts.specs.Places.{young_places}
-use Rattle.heap_parts.specs.Headers.{IsYoungHeader}
-use Rattle.heap_parts.specs.Lists.{named_entries}
-use Rattle.heap_parts.specs.StandsFor.{PartsStandFor}
+use Rattle.parts_model.specs.Parts.{HeapParts, word_in, place_in}
+use Rattle.parts_model.specs.Places.{young_places}
+use Rattle.parts_model.specs.Headers.{IsYoungHeader}
+use Rattle.parts_model.specs.Lists.{named_entries}
+use Rattle.parts_model.specs.StandsFor.{PartsStandFor}
 use Rattle.frame_laws.proofs.PlaceLaws.{young-is_in}
 use Rattle.frame_laws.proofs.StandLaws.{in_slot}
 use Rattle.store_model.proofs.RootLaws.{are_roots, RootChange}

@@ -18,12 +18,12 @@ use Rattle.store_model.specs.Store.{Store}
 use Rattle.object_model.specs.Sets.{is_in}
 use Rattle.object_model.specs.ObjectWords.{updated, words_at}
 use Rattle.object_model.specs.Holds.{HoldsObjects}
-use Rattle.heap_parts.specs.Parts.{HeapParts, word_in, home_in}
-use Rattle.heap_parts.specs.Places.{is_young, young_places, old_places, OfFirsts}
-use Rattle.heap_parts.specs.OldSpace.{reserved_homes}
-use Rattle.heap_parts.specs.Headers.{IsSettledHeader, keeps_cards}
-use Rattle.heap_parts.specs.StandsFor.{PartsStandFor}
-use Rattle.heap_parts.specs.Effects.{with_barrier}
+use Rattle.parts_model.specs.Parts.{HeapParts, word_in, home_in}
+use Rattle.parts_model.specs.Places.{is_young, young_places, old_places, OfFirsts}
+use Rattle.parts_model.specs.OldSpace.{reserved_homes}
+use Rattle.parts_model.specs.Headers.{IsSettledHeader, keeps_cards}
+use Rattle.parts_model.specs.StandsFor.{PartsStandFor}
+use Rattle.parts_model.specs.Effects.{with_barrier}
 use Rattle.frame_laws.proofs.PlaceLaws.{young-is_in, old-is_in}
 use Rattle.frame_laws.proofs.KeepWords.{SameObjects, words_kept, firsts-stay}
 use Rattle.frame_laws.proofs.WriteWords.{header_written, husk_first, shadow_first, blocks_written}

@@ -4,7 +4,7 @@ use Rattle.std.specs.List.{IsDistinct, AllByRecursion}
 use Rattle.std.proofs.lemmas.Bool.{ne_eqb}
 use Rattle.object_model.specs.Sets.{is_in}
 use Rattle.object_model.proofs.Members.{is_in-head, is_in-tail, is_in-cases, is_in-nil}
-use Rattle.heap_parts.specs.Places.{RiseBetween}
+use Rattle.parts_model.specs.Places.{RiseBetween}
 
 -- rising births from a greater least one on
 pub rise-lower : (low least next : ℕ) (births : List ℕ) → low ≤ least → RiseBetween least births next → RiseBetween low births next

@@ -15,13 +15,13 @@ use Rattle.store_model.specs.Store.{Store}
 use Rattle.object_model.specs.Sets.{is_in}
 use Rattle.object_model.specs.ObjectWords.{updated, words_at}
 use Rattle.object_model.specs.Holds.{HoldsObjects}
-use Rattle.heap_parts.specs.Parts.{HeapParts, word_in, home_in}
-use Rattle.heap_parts.specs.Places.{is_young, young_places, old_places}
-use Rattle.heap_parts.specs.OldSpace.{reserved_homes}
-use Rattle.heap_parts.specs.Headers.{IsYoungHeader, keeps_cards}
-use Rattle.heap_parts.specs.Lists.{named_entries, HoldsEntries}
-use Rattle.heap_parts.specs.StandsFor.{PartsStandFor, HoldsWords}
-use Rattle.heap_parts.specs.Effects.{with_word_at}
+use Rattle.parts_model.specs.Parts.{HeapParts, word_in, home_in}
+use Rattle.parts_model.specs.Places.{is_young, young_places, old_places}
+use Rattle.parts_model.specs.OldSpace.{reserved_homes}
+use Rattle.parts_model.specs.Headers.{IsYoungHeader, keeps_cards}
+use Rattle.parts_model.specs.Lists.{named_entries, HoldsEntries}
+use Rattle.parts_model.specs.StandsFor.{PartsStandFor, HoldsWords}
+use Rattle.parts_model.specs.Effects.{with_word_at}
 use Rattle.frame_laws.proofs.PlaceLaws.{young-is_in, old-is_in}
 use Rattle.frame_laws.proofs.KeepWords.{SameObjects, words_kept, firsts-stay}
 use Rattle.frame_laws.proofs.WriteWords.{header_written, husk_first, shadow_first, blocks_written}

@@ -8,7 +8,7 @@ use Rattle.object_model.proofs.Members.{is_in-head, is_in-tail, is_in-cases, or_
 use Rattle.object_model.specs.Sets.{is_in}
 use Rattle.store_model.specs.MarkingOrder.{HeldSettled}
 use Rattle.remember_cards.specs.Remembered.{Held, Remembered, held_whole, hold_whole, with_whole, held_places, is_held_whole, has_held_cards, is_held_of, holds_item, has_any}
-use Rattle.heap_parts.specs.Places.{AreAmong}
+use Rattle.parts_model.specs.Places.{AreAmong}
 
 any-same : (f : Held → Bool) (hs : List Held) (p : ℕ) → f (held_whole p) ≡ false → ((h : Held) → h.place ≡ p → f (record h { is_whole = true }) ≡ f h)
     → list_any f (hold_whole hs p) ≡ list_any f hs

@@ -23,14 +23,14 @@ use Rattle.object_model.specs.ObjectWords.{info_at}
 use Rattle.object_model.specs.Shapes.{is_weak_shape}
 use Rattle.object_model.specs.Holds.{HoldsObjects}
 use Rattle.remember_cards.specs.Remembered.{Remembered}
-use Rattle.heap_parts.specs.Places.{young_places, old_places, OfFirsts, is_weak_at}
-use Rattle.heap_parts.specs.Nursery.{AreWalks, walked, HoldsNursery}
-use Rattle.heap_parts.specs.OldSpace.{reserved_block, reserved_blocks, reserved_homes, blocks_of, husk_at, HoldsHusks}
-use Rattle.heap_parts.specs.Headers.{keeps_cards, IsCarded}
-use Rattle.heap_parts.specs.StandsFor.{HoldsWords, HoldsHeaders, HoldsYoungFlags, HoldsRemembered}
+use Rattle.parts_model.specs.Places.{young_places, old_places, OfFirsts, is_weak_at}
+use Rattle.parts_model.specs.Nursery.{AreWalks, walked, HoldsNursery}
+use Rattle.parts_model.specs.OldSpace.{reserved_block, reserved_blocks, reserved_homes, blocks_of, husk_at, HoldsHusks}
+use Rattle.parts_model.specs.Headers.{keeps_cards, IsCarded}
+use Rattle.parts_model.specs.StandsFor.{HoldsWords, HoldsHeaders, HoldsYoungFlags, HoldsRemembered}
 use Rattle.frame_laws.proofs.PlaceLaws.{young-is_in, old-is_in}
-use Rattle.heap_parts.proofs.SameLayouts.{SameLayouts, walk-same, whole-same}
-use Rattle.heap_parts.proofs.BlockLaws.{blocks-same}
+use Rattle.parts_model.proofs.SameLayouts.{SameLayouts, walk-same, whole-same}
+use Rattle.parts_model.proofs.BlockLaws.{blocks-same}
 
 -- First words stay, and objects and husks keep their layouts.
 pub record SameObjects (types : Table TypeInfo) (v w : ℕ → ℕ) (places husks : List ℕ) : Type 0 where

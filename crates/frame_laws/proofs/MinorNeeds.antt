@@ -14,9 +14,9 @@ use Rattle.object_model.specs.Fields.{refs_of, ref_in}
 use Rattle.store_model.specs.MarkingOrder.{IsItem}
 use Rattle.object_model.specs.ObjectWords.{renamed, object_from, layout_at}
 use Rattle.remember_cards.specs.Remembered.{Held, is_held, holds_item}
-use Rattle.heap_parts.specs.Parts.{HeapParts, word_in}
-use Rattle.heap_parts.specs.Places.{is_young, old_places, AreAmong}
-use Rattle.heap_parts.specs.StandsFor.{PartsStandFor}
+use Rattle.parts_model.specs.Parts.{HeapParts, word_in}
+use Rattle.parts_model.specs.Places.{is_young, old_places, AreAmong}
+use Rattle.parts_model.specs.StandsFor.{PartsStandFor}
 use Rattle.frame_laws.proofs.SlotLaws.{pointer-some}
 use Rattle.frame_laws.proofs.PlaceLaws.{settled-old, old-is_in}
 

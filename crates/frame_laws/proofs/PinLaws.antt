@@ -6,7 +6,7 @@ use Rattle.std.proofs.lemmas.Bool.Decides.{eqb_tells}
 use Rattle.object_model.proofs.Members.{is_in-head, is_in-tail}
 use Rattle.object_model.specs.Sets.{is_in}
 use Rattle.store_model.specs.Identity.{pinned_more, pinned_less, with_count}
-use Rattle.heap_parts.specs.Lists.{named_entries}
+use Rattle.parts_model.specs.Lists.{named_entries}
 use Rattle.store_model.proofs.PinLaws.{keys}
 
 -- pins under other names

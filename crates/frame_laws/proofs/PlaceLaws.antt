@@ -15,7 +15,7 @@ use Rattle.store_model.specs.Store.{unsettled_words, settled_words}
 use Rattle.object_model.specs.Sets.{is_in}
 use Rattle.object_model.specs.ObjectWords.{object_from, words_at}
 use Rattle.object_model.specs.Holds.{HoldsObjects}
-use Rattle.heap_parts.specs.Places.{is_young, young_places, old_places}
+use Rattle.parts_model.specs.Places.{is_young, young_places, old_places}
 
 -- one more element, which passes a test or not
 pub filter-more : (test : ℕ → Bool) (xs : List ℕ) (a : ℕ) → test a ≡ true → filter test (xs ++ a ∷ []) ≡ filter test xs ++ a ∷ []

@@ -33,14 +33,14 @@ use Rattle.object_model.specs.Sets.{is_in}
 use Rattle.object_model.specs.ObjectWords.{updated, words_at}
 use Rattle.object_model.specs.Holds.{HoldsObjects}
 use Rattle.store_model.specs.Sound.{IsSound}
-use Rattle.heap_parts.specs.Parts.{HeapParts, word_in, home_in}
-use Rattle.heap_parts.specs.Places.{is_young, young_places, old_places, block_at}
-use Rattle.heap_parts.specs.OldSpace.{reserved_block, reserved_blocks, reserved_homes}
-use Rattle.heap_parts.specs.Headers.{IsYoungHeader, IsShadowHeader, keeps_cards}
-use Rattle.heap_parts.specs.StandsFor.{PartsStandFor, HoldsWords}
+use Rattle.parts_model.specs.Parts.{HeapParts, word_in, home_in}
+use Rattle.parts_model.specs.Places.{is_young, young_places, old_places, block_at}
+use Rattle.parts_model.specs.OldSpace.{reserved_block, reserved_blocks, reserved_homes}
+use Rattle.parts_model.specs.Headers.{IsYoungHeader, IsShadowHeader, keeps_cards}
+use Rattle.parts_model.specs.StandsFor.{PartsStandFor, HoldsWords}
 use Rattle.frame_laws.proofs.Births.{rise-differ}
 use Rattle.frame_laws.proofs.Members.{each-left, each-right}
-use Rattle.heap_parts.proofs.BlockLaws.{each-member}
+use Rattle.parts_model.proofs.BlockLaws.{each-member}
 use Rattle.frame_laws.proofs.PlaceLaws.{young-is_in, old-is_in}
 use Rattle.frame_laws.proofs.KeepWords.{SameObjects, words_kept, firsts-stay}
 use Rattle.frame_laws.proofs.WriteWords.{each-imp, each-both, each-reserved, header_written, husk_first, shadow_first, blocks_written}

@@ -15,9 +15,9 @@ use Rattle.store_model.specs.Structs.{object_of, with_object}
 use Rattle.object_model.specs.ObjectWords.{renamed, info_at}
 use Rattle.object_model.specs.Holds.{IsPointer}
 use Rattle.store_model.specs.PlainCommands.{Revives, without_revived, linked_object, target_at}
-use Rattle.heap_parts.specs.Parts.{HeapParts, word_in, place_in}
-use Rattle.heap_parts.specs.StandsFor.{PartsStandFor}
-use Rattle.heap_parts.specs.Effects.{with_slot, layout_in}
+use Rattle.parts_model.specs.Parts.{HeapParts, word_in, place_in}
+use Rattle.parts_model.specs.StandsFor.{PartsStandFor}
+use Rattle.parts_model.specs.Effects.{with_slot, layout_in}
 use Rattle.frame_laws.proofs.SlotLaws.{pointer-some}
 use Rattle.frame_laws.proofs.StandLaws.{in_slot}
 use Rattle.store_model.proofs.SoundLaws.{CanBeRoot}

@@ -5,7 +5,7 @@ use Rattle.std.proofs.lemmas.Bool.{cases_Bool, ne_eqb}
 use Rattle.std.proofs.lemmas.Bool.Decides.{eqb_tells, nat_tests}
 use Rattle.object_model.proofs.Members.{is_in-head, is_in-tail, is_in-cases, is_in-nil}
 use Rattle.object_model.specs.Sets.{is_in}
-use Rattle.heap_parts.specs.Places.{RiseBetween}
+use Rattle.parts_model.specs.Places.{RiseBetween}
 use Rattle.frame_laws.proofs.Births.{rise-bounds, rise-differ, rise-lower}
 use Rattle.type_table.specs.Table.{Table, KeysRise}
 use Rattle.type_table.proofs.TableLaws.{KeysRise-tail, KeysRise-cons, first_key_below}

@@ -14,11 +14,11 @@ use Rattle.store_model.specs.Roots.{referents_in}
 use Rattle.store_model.specs.Sound.{IsSound}
 use Rattle.object_model.specs.ObjectWords.{renamed, object_from}
 use Rattle.object_model.specs.Holds.{IsPointer}
-use Rattle.heap_parts.specs.Parts.{HeapParts, word_in, place_in}
-use Rattle.heap_parts.specs.Places.{young_places}
-use Rattle.heap_parts.specs.Lists.{HoldsSlots, HoldsEntries, HoldsLinks}
-use Rattle.heap_parts.specs.StandsFor.{PartsStandFor, HoldsFinalizers}
-use Rattle.heap_parts.specs.Effects.{with_slot, ref_place, layout_in}
+use Rattle.parts_model.specs.Parts.{HeapParts, word_in, place_in}
+use Rattle.parts_model.specs.Places.{young_places}
+use Rattle.parts_model.specs.Lists.{HoldsSlots, HoldsEntries, HoldsLinks}
+use Rattle.parts_model.specs.StandsFor.{PartsStandFor, HoldsFinalizers}
+use Rattle.parts_model.specs.Effects.{with_slot, ref_place, layout_in}
 use Rattle.frame_laws.proofs.SlotLaws.{held-named, slot-pointer}
 use Rattle.frame_laws.proofs.StandLaws.{in_slot}
 use Rattle.store_model.proofs.RootLaws.{held_root, Relieves, relieves_none, can_root, can_refer, RootChange, sound_rerooted, order_relieved}

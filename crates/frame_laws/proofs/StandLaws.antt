@@ -18,12 +18,12 @@ use Rattle.store_model.specs.Steps.{put_int}
 use Rattle.object_model.specs.ObjectWords.{renamed, updated, words_at}
 use Rattle.object_model.specs.Holds.{HoldsObjects, IsPointer}
 use Rattle.remember_cards.specs.Remembered.{is_held_of}
-use Rattle.heap_parts.specs.Parts.{HeapParts, word_in, place_in, home_in}
-use Rattle.heap_parts.specs.Places.{young_places, old_places}
-use Rattle.heap_parts.specs.StandsFor.{PartsStandFor}
-use Rattle.heap_parts.specs.Effects.{with_word_at, int_place, ref_place, layout_in}
+use Rattle.parts_model.specs.Parts.{HeapParts, word_in, place_in, home_in}
+use Rattle.parts_model.specs.Places.{young_places, old_places}
+use Rattle.parts_model.specs.StandsFor.{PartsStandFor}
+use Rattle.parts_model.specs.Effects.{with_word_at, int_place, ref_place, layout_in}
 use Rattle.frame_laws.proofs.PlaceLaws.{placed_words, young-is_in, old-is_in}
-use Rattle.heap_parts.proofs.SameLayouts.{SameLayouts, sum-same}
+use Rattle.parts_model.proofs.SameLayouts.{SameLayouts, sum-same}
 use Rattle.frame_laws.proofs.KeepWords.{SameWords, headers_kept, young_flags_kept, remembered_kept, old-firsts, firsts-stay, words_kept}
 use Rattle.frame_laws.proofs.WriteWords.{same_written, blocks_written}
 use Rattle.store_model.proofs.FieldChanges.{IsFieldChange, int_change, ref_change, same_but_for, items_changed}

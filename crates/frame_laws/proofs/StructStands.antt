@@ -10,9 +10,9 @@ use Rattle.store_model.specs.Roots.{is_kept}
 use Rattle.store_model.specs.Structs.{Structs, object_of, forced_object, with_object, with_objects, raised}
 use Rattle.store_model.specs.Sound.{p_linked_object}
 use Rattle.store_model.specs.PlainCommands.{link_struct, structs_linked, raise_struct, raised_at, forced_anew, Revives, without_revived}
-use Rattle.heap_parts.specs.Parts.{HeapParts, place_in}
-use Rattle.heap_parts.specs.Lists.{HoldsLinks}
-use Rattle.heap_parts.specs.StandsFor.{PartsStandFor}
+use Rattle.parts_model.specs.Parts.{HeapParts, place_in}
+use Rattle.parts_model.specs.Lists.{HoldsLinks}
+use Rattle.parts_model.specs.StandsFor.{PartsStandFor}
 use Rattle.frame_laws.proofs.StandLaws.{in_slot}
 use Rattle.store_model.proofs.RootLaws.{held_root, Relieves, relieves_none, can_root, can_relieved, are_roots}
 use Rattle.store_model.proofs.SoundLaws.{CanBeRoot}

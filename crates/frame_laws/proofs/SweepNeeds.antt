@@ -6,11 +6,11 @@ use Rattle.size_pages.specs.Sweeping.{is_dead}
 use Rattle.text_model.specs.declared.line.Phase.TheVariants.{Sweeping}
 use Rattle.store_model.specs.Store.{Store}
 use Rattle.object_model.specs.Sets.{is_in}
-use Rattle.heap_parts.specs.Parts.{HeapParts, word_in, home_in}
-use Rattle.heap_parts.specs.Places.{young_places, old_places}
-use Rattle.heap_parts.specs.OldSpace.{reserved_homes, is_waiting}
-use Rattle.heap_parts.specs.Headers.{is_marked}
-use Rattle.heap_parts.specs.StandsFor.{PartsStandFor}
+use Rattle.parts_model.specs.Parts.{HeapParts, word_in, home_in}
+use Rattle.parts_model.specs.Places.{young_places, old_places}
+use Rattle.parts_model.specs.OldSpace.{reserved_homes, is_waiting}
+use Rattle.parts_model.specs.Headers.{is_marked}
+use Rattle.parts_model.specs.StandsFor.{PartsStandFor}
 
 -- a settled object in a unit that waits is not dead
 pub settled_lives : (heap : HeapParts) (store : Store) (s : PartsStandFor heap store) (p : ℕ) → heap.phase ≡ Sweeping → IsTrue (is_in p (old_places s.places))

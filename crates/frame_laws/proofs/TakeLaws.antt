@@ -21,13 +21,13 @@ use Rattle.object_model.specs.Layout.{Layout}
 use Rattle.object_model.specs.Object.{Object}
 use Rattle.object_model.specs.Sets.{is_in}
 use Rattle.object_model.specs.ObjectWords.{words_at}
-use Rattle.heap_parts.specs.Places.{is_young, young_places, old_places, block_at}
-use Rattle.heap_parts.specs.OldSpace.{reserved_blocks, blocks_of}
-use Rattle.heap_parts.specs.Nursery.{walked}
-use Rattle.heap_parts.specs.StandsFor.{HoldsWords}
+use Rattle.parts_model.specs.Places.{is_young, young_places, old_places, block_at}
+use Rattle.parts_model.specs.OldSpace.{reserved_blocks, blocks_of}
+use Rattle.parts_model.specs.Nursery.{walked}
+use Rattle.parts_model.specs.StandsFor.{HoldsWords}
 use Rattle.frame_laws.proofs.Members.{each-left, each-right}
 use Rattle.frame_laws.proofs.PlaceLaws.{young-is_in, is_in-young, is_in-old}
-use Rattle.heap_parts.proofs.BlockLaws.{each-member}
+use Rattle.parts_model.proofs.BlockLaws.{each-member}
 use Rattle.frame_laws.proofs.WriteWords.{each-imp, each-both, each-reserved}
 use Rattle.frame_laws.proofs.KeepWords.{SameWords, walks-same, weak-same, blocks_same, husks_kept}
 

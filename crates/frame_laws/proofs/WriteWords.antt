@@ -23,12 +23,12 @@ use Rattle.old_space.proofs.JoinLaws.{HasBlocks_untouched, HasBlocks-apart, HasB
 use Rattle.object_model.specs.Object.{Object}
 use Rattle.object_model.specs.Sets.{is_in}
 use Rattle.object_model.specs.ObjectWords.{updated, words_at, Covers}
-use Rattle.heap_parts.specs.Places.{is_young, young_places, old_places, block_at}
-use Rattle.heap_parts.specs.OldSpace.{reserved_blocks, reserved_homes, blocks_of}
-use Rattle.heap_parts.specs.StandsFor.{HoldsWords}
+use Rattle.parts_model.specs.Places.{is_young, young_places, old_places, block_at}
+use Rattle.parts_model.specs.OldSpace.{reserved_blocks, reserved_homes, blocks_of}
+use Rattle.parts_model.specs.StandsFor.{HoldsWords}
 use Rattle.frame_laws.proofs.Members.{each-left, each-right, apart-both}
 use Rattle.frame_laws.proofs.PlaceLaws.{is_in-young, is_in-old}
-use Rattle.heap_parts.proofs.BlockLaws.{each-member}
+use Rattle.parts_model.proofs.BlockLaws.{each-member}
 use Rattle.frame_laws.proofs.KeepWords.{SameObjects, SameWords}
 
 pub each-imp : (P Q : Extent → Type 0) (xs : List Extent) → ((x : Extent) → P x → Q x) → Each P xs → Each Q xs

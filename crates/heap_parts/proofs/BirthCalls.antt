@@ -15,9 +15,9 @@ use Rattle.old_space.specs.HasBlocks.{HasBlocks, greatest_small}
 use Rattle.old_space.specs.Calls.{IsElsewhere}
 use Rattle.old_space.specs.declared.Old.{Old}
 use Rattle.old_space.proofs.JoinLaws.{HasBlocks-first}
-use Rattle.heap_parts.specs.Parts.{HeapParts}
-use Rattle.heap_parts.specs.Headers.{keeps_cards}
-use Rattle.heap_parts.specs.Births.{with_newborn, HasRoom, HasNurseryRoom, BearsYoung, with_old_blocks, KeepsLive, TakesBlock, TakesNone, BearsOld, HasOldRoom, old_header}
+use Rattle.parts_model.specs.Parts.{HeapParts}
+use Rattle.parts_model.specs.Headers.{keeps_cards}
+use Rattle.parts_model.specs.Births.{with_newborn, HasRoom, HasNurseryRoom, BearsYoung, with_old_blocks, KeepsLive, TakesBlock, TakesNone, BearsOld, HasOldRoom, old_header}
 
 -- where the nursery has room there is room for a birth
 pub young_room : (heap : HeapParts) (nursery : NurseryLayout) (place n root : ℕ) (info : TypeInfo) (items : ℕ) → HasNurseryRoom heap root info items → n ≡ words_in info.shape items

@@ -10,12 +10,12 @@ use Rattle.finalizer_order.specs.Finalizers as entries
 use Rattle.finalizer_order.specs.Finalizers.{Finalizers, is_listed, births_of, placed, placed_queues, queued_entries}
 use Rattle.finalizer_order.specs.Queues as entry_queues
 use Rattle.store_model.specs.PlainCommands.{first_of, without_first}
-use Rattle.heap_parts.specs.NamedFinals.{NamedFinals, births_told, final_births}
-use Rattle.heap_parts.specs.Parts.{HeapParts, word_in}
-use Rattle.heap_parts.specs.Effects.{birth_read}
-use Rattle.heap_parts.specs.Told.{if_there}
-use Rattle.heap_parts.specs.Registers.{birth_in, is_final, with_registered, next_place, without_next}
-use Rattle.heap_parts.proofs.QueueTables.{told_queues, value-told, with-told, without-told}
+use Rattle.parts_model.specs.NamedFinals.{NamedFinals, births_told, final_births}
+use Rattle.parts_model.specs.Parts.{HeapParts, word_in}
+use Rattle.parts_model.specs.Effects.{birth_read}
+use Rattle.parts_model.specs.Told.{if_there}
+use Rattle.parts_model.specs.Registers.{birth_in, is_final, with_registered, next_place, without_next}
+use Rattle.parts_model.proofs.QueueTables.{told_queues, value-told, with-told, without-told}
 
 births-beside : (entries : List Entry) → map (λ (e : ℕ × ℕ). e.0) (map (λ (e : Entry). (e.birth, e.queue)) entries) ≡ births_of entries
 births-beside [] = refl

@@ -22,10 +22,10 @@ use Rattle.object_model.specs.ObjectWords.{words_at}
 use Rattle.object_view.proofs.LayoutLaws.{laid_out}
 use Rattle.object_view.proofs.SpaceLaws.{lies-at}
 use Rattle.old_space.proofs.JoinLaws.{HasBlocks-first}
-use Rattle.heap_parts.specs.Homes.{CanReserve, shadow_word, ReservesHome}
-use Rattle.heap_parts.proofs.BlockLaws.{lies-kept}
-use Rattle.heap_parts.specs.Parts.{HeapParts, word_in}
-use Rattle.heap_parts.specs.Births.{with_old_blocks, TakesBlock, TakesNone}
+use Rattle.parts_model.specs.Homes.{CanReserve, shadow_word, ReservesHome}
+use Rattle.parts_model.proofs.BlockLaws.{lies-kept}
+use Rattle.parts_model.specs.Parts.{HeapParts, word_in}
+use Rattle.parts_model.specs.Births.{with_old_blocks, TakesBlock, TakesNone}
 
 words-twice : (a b c : Memory) (xs : List Extent) → KeepsWords a b xs → KeepsWords b c xs → KeepsWords a c xs
 words-twice a b c [] p q = tt

@@ -3,9 +3,9 @@ use Rattle.std.proofs.Common.{◌≡◌, ℕ, zero, suc, ◌<◌, List, [], ◌�
 use Rattle.type_table.specs.declared.info.TypeInfo.{TypeInfo}
 use Rattle.type_table.specs.Words.{words_in}
 use Rattle.nursery_gaps.specs.Nursery.{Fits}
-use Rattle.heap_parts.specs.Parts.{HeapParts, place_in}
-use Rattle.heap_parts.specs.Births.{BearsYoung, KeepsLive, TakesNone, BearsOld}
-use Rattle.heap_parts.specs.WeakBirths.{with_listed, BearsWeakYoung, BearsWeakOld}
+use Rattle.parts_model.specs.Parts.{HeapParts, place_in}
+use Rattle.parts_model.specs.Births.{BearsYoung, KeepsLive, TakesNone, BearsOld}
+use Rattle.parts_model.specs.WeakBirths.{with_listed, BearsWeakYoung, BearsWeakOld}
 
 -- the heap with the listed weak objects of another one
 abbrev with_weaks_of : HeapParts → HeapParts → HeapParts

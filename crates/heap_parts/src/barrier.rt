@@ -1,6 +1,6 @@
 //! The write barrier.
 ghost use Rattle.std.specs.Prelude.{◌≡◌, OnOk, OnErr};
-ghost use Rattle.heap_parts.specs.Remembers.{CanRemember, RemembersItems};
+ghost use Rattle.parts_model.specs.Remembers.{CanRemember, RemembersItems};
 
 use crate::parts::Parts;
 use std::alloc::AllocError;

@@ -1,7 +1,7 @@
 //! Objects with finalizers, and their queues.
 ghost use Rattle.std.specs.Prelude.{◌≡◌, ◌<◌, IsFalse, OnOk, OnErr};
 ghost use Rattle.object_view.specs.Views.{HasObject};
-ghost use Rattle.heap_parts.specs.Registers.{is_final, with_registered, next_place, without_next};
+ghost use Rattle.parts_model.specs.Registers.{is_final, with_registered, next_place, without_next};
 
 use crate::parts::Parts;
 use object_view::view;

@@ -1,8 +1,8 @@
 //! Homes that are reserved for objects of the nursery.
 ghost use Rattle.std.specs.Prelude.{◌≡◌, IfOk, OnErr};
-ghost use Rattle.heap_parts.specs.Parts.{home_in};
-ghost use Rattle.heap_parts.specs.Births.{TakesNone};
-ghost use Rattle.heap_parts.specs.Homes.{CanReserve, ReservesHome};
+ghost use Rattle.parts_model.specs.Parts.{home_in};
+ghost use Rattle.parts_model.specs.Births.{TakesNone};
+ghost use Rattle.parts_model.specs.Homes.{CanReserve, ReservesHome};
 
 use crate::parts::Parts;
 use object_header::{Flag, set};

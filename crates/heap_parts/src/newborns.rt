@@ -5,8 +5,8 @@ ghost use Rattle.type_table.specs.Words.{words_in};
 ghost use Rattle.object_header.specs.Words.{IsHeader};
 ghost use Rattle.nursery_gaps.specs.Nursery.{Fits};
 ghost use Rattle.old_space.specs.HasBlocks.{Stands};
-ghost use Rattle.heap_parts.specs.Headers.{keeps_cards as keeps_cards_of};
-ghost use Rattle.heap_parts.specs.Births.{with_newborn, HasRoom, HasNurseryRoom, BearsYoung, TakesBlock, TakesNone, BearsOld, HasOldRoom, old_header as old_header_of};
+ghost use Rattle.parts_model.specs.Headers.{keeps_cards as keeps_cards_of};
+ghost use Rattle.parts_model.specs.Births.{with_newborn, HasRoom, HasNurseryRoom, BearsYoung, TakesBlock, TakesNone, BearsOld, HasOldRoom, old_header as old_header_of};
 
 use crate::parts::Parts;
 use object_header::{Flag, set};

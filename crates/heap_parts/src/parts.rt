@@ -2,7 +2,7 @@
 ghost use Rattle.std.specs.Prelude.{◌≡◌, ◌+◌, IfOk};
 ghost use Rattle.type_table.specs.Table.{value_at};
 ghost use Rattle.object_model.specs.SettingRanges.{AreInRange};
-ghost use Rattle.heap_parts.specs.Parts.{AreFresh};
+ghost use Rattle.parts_model.specs.Parts.{AreFresh};
 
 use crate::empty_parts::{lists, slots_and_pins, tables, words};
 use crate::pins::Pins;
@@ -65,11 +65,11 @@ pub struct Parts {
 
 impl Model for Parts {
     ghost use Rattle.std.specs.Coded.{codes};
-    ghost use Rattle.heap_parts.specs.Code.{old_code, homes_code};
+    ghost use Rattle.parts_model.specs.Code.{old_code, homes_code};
     ghost use Rattle.remember_cards.specs.Remembering.{remembered_by};
     ghost use Rattle.finalizer_order.specs.Finalizers.{placed, placed_queues};
-    ghost use Rattle.heap_parts.specs.NamedFinals.{births_told};
-    ghost use Rattle.heap_parts.specs.Parts.{HeapParts};
+    ghost use Rattle.parts_model.specs.NamedFinals.{births_told};
+    ghost use Rattle.parts_model.specs.Parts.{HeapParts};
 
     ghost Value = { HeapParts };
 

@@ -2,7 +2,7 @@
 ghost use Rattle.std.specs.Prelude.{◌≡◌, ◌<◌, ◌≤◌, IsTrue};
 ghost use Rattle.heap_space.specs.Places.{has};
 ghost use Rattle.store_model.specs.Identity.{pin_count as count_in, has_pin_room as has_room_in};
-ghost use Rattle.heap_parts.specs.Pins.{with_pin, without_pin};
+ghost use Rattle.parts_model.specs.Pins.{with_pin, without_pin};
 
 use crate::parts::Parts;
 use object_header::{Flag, clear, set};

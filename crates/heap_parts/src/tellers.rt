@@ -7,9 +7,9 @@ ghost use Rattle.object_view.specs.Views.{HasObject};
 ghost use Rattle.object_model.specs.Setup.{young_words};
 ghost use Rattle.store_model.specs.Store.{husk_words as husk_words_of};
 ghost use Rattle.store_model.specs.Structs.{state_of};
-ghost use Rattle.heap_parts.specs.Parts.{word_in, place_in};
-ghost use Rattle.heap_parts.specs.Registers.{is_final};
-ghost use Rattle.heap_parts.specs.Told.{if_there, has_p_link_at};
+ghost use Rattle.parts_model.specs.Parts.{word_in, place_in};
+ghost use Rattle.parts_model.specs.Registers.{is_final};
+ghost use Rattle.parts_model.specs.Told.{if_there, has_p_link_at};
 
 use crate::parts::Parts;
 use object_header::{Flag, is_set};

@@ -2,10 +2,10 @@
 ghost use Rattle.std.specs.Prelude.{◌≡◌, ℕ, ◌<◌, List, [], ◌∷◌, ◌++◌, length, IfOk, OnOk, OnErr};
 ghost use Rattle.type_table.specs.declared.info.Shape.TheVariants.{Weak};
 ghost use Rattle.object_model.specs.ObjectWords.{info_at};
-ghost use Rattle.heap_parts.specs.Parts.{word_in, place_in};
-ghost use Rattle.heap_parts.specs.Effects.{HasObjectIn, layout_in};
-ghost use Rattle.heap_parts.specs.Births.{TakesNone};
-ghost use Rattle.heap_parts.specs.WeakBirths.{with_listed, HasWeakRoom, BearsWeak};
+ghost use Rattle.parts_model.specs.Parts.{word_in, place_in};
+ghost use Rattle.parts_model.specs.Effects.{HasObjectIn, layout_in};
+ghost use Rattle.parts_model.specs.Births.{TakesNone};
+ghost use Rattle.parts_model.specs.WeakBirths.{with_listed, HasWeakRoom, BearsWeak};
 
 use crate::parts::Parts;
 use object_view::{ref_at, view};

@@ -2,10 +2,10 @@
 ghost use Rattle.std.specs.Prelude.{◌≡◌, ◌≢◌, ◌+◌, ◌<◌, ◌≤◌, length};
 ghost use Rattle.object_view.specs.Views.{HasObject};
 ghost use Rattle.object_model.specs.ObjectWords.{type_id_at};
-ghost use Rattle.heap_parts.specs.Parts.{word_in, place_in};
-ghost use Rattle.heap_parts.specs.Told.{kind_at};
-ghost use Rattle.heap_parts.specs.Effects.{birth_read, HasObjectIn, layout_in, int_place, ref_place, with_word_at, with_slot};
-ghost use Rattle.heap_parts.specs.Copies.{with_copy};
+ghost use Rattle.parts_model.specs.Parts.{word_in, place_in};
+ghost use Rattle.parts_model.specs.Told.{kind_at};
+ghost use Rattle.parts_model.specs.Effects.{birth_read, HasObjectIn, layout_in, int_place, ref_place, with_word_at, with_slot};
+ghost use Rattle.parts_model.specs.Copies.{with_copy};
 
 use crate::parts::Parts;
 use object_model::Kind;

@@ -1,7 +1,7 @@
 use Rattle.std.proofs.Common.{Bool, ap, ◌∙◌}
-use Rattle.heap_parts.specs.Parts.{HeapParts}
-use Rattle.heap_parts.specs.Headers.{keeps_cards}
-use Rattle.heap_parts.specs.Births.{old_header}
+use Rattle.parts_model.specs.Parts.{HeapParts}
+use Rattle.parts_model.specs.Headers.{keeps_cards}
+use Rattle.parts_model.specs.Births.{old_header}
 use Rattle.heap_parts.specs.contracts.parts.Parts.{the_view}
 use Rattle.heap_parts.proofs.BirthCalls.{taken_room, bears_old}
 use Rattle.heap_parts.proofs.parts.Parts.bear_old.Goals as goal

@@ -1,8 +1,8 @@
 use Rattle.std.proofs.Common.{ℕ, sym, subst}
 use Rattle.type_table.specs.Words.{words_in}
 use Rattle.nursery_gaps.specs.Nursery.{Fits}
-use Rattle.heap_parts.specs.Parts.{HeapParts}
-use Rattle.heap_parts.specs.Births.{HasNurseryRoom}
+use Rattle.parts_model.specs.Parts.{HeapParts}
+use Rattle.parts_model.specs.Births.{HasNurseryRoom}
 use Rattle.heap_parts.specs.contracts.parts.Parts.{the_view}
 use Rattle.heap_parts.proofs.BirthCalls.{young_room}
 use Rattle.heap_parts.proofs.parts.Parts.bear_young.Goals as goal

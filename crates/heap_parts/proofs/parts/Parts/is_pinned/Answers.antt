@@ -4,7 +4,7 @@ use Rattle.object_model.specs.ObjectWords.{words_at}
 use Rattle.object_view.specs.Views.{HasObject}
 use Rattle.object_view.proofs.LayoutLaws.{laid_out}
 use Rattle.object_view.proofs.SpaceLaws.{lies-at}
-use Rattle.heap_parts.specs.Parts.{HeapParts}
+use Rattle.parts_model.specs.Parts.{HeapParts}
 use Rattle.heap_parts.proofs.parts.Parts.is_pinned.Goals as goal
 
 pub read-requires : goal.read-requires

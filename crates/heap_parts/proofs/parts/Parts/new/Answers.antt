@@ -1,7 +1,7 @@
 use Rattle.std.proofs.Common.{◌≡◌}
 use Rattle.finalizer_order.specs.Finalizers.{no_finalizers, placed, placed_queues}
-use Rattle.heap_parts.specs.NamedFinals.{births_told}
-use Rattle.heap_parts.specs.Parts.{started_parts}
+use Rattle.parts_model.specs.NamedFinals.{births_told}
+use Rattle.parts_model.specs.Parts.{started_parts}
 use Rattle.heap_parts.proofs.parts.Parts.new.Goals as goal
 
 pub returns : goal.returns

@@ -1,7 +1,7 @@
 use Rattle.std.proofs.Common.{ap, ◌∙◌}
 use Rattle.finalizer_order.specs.Finalizers.{Finalizers}
-use Rattle.heap_parts.specs.Parts.{HeapParts}
-use Rattle.heap_parts.specs.Registers.{next_place, without_next}
+use Rattle.parts_model.specs.Parts.{HeapParts}
+use Rattle.parts_model.specs.Registers.{next_place, without_next}
 use Rattle.heap_parts.specs.contracts.parts.Parts.{the_view}
 use Rattle.heap_parts.proofs.FinalLaws.{with_finals, first_shown, taken_shown}
 use Rattle.heap_parts.proofs.parts.Parts.next_final.Goals as goal

@@ -2,9 +2,9 @@ use Rattle.std.proofs.Common.{◌≡◌, ℕ, ◌+◌, IsFalse, sym, ap, ◌∙�
 use Rattle.heap_space.specs.Places.{word_at}
 use Rattle.object_model.specs.Sets.{is_in}
 use Rattle.object_view.specs.declared.fields.ObjView.{ObjView}
-use Rattle.heap_parts.specs.NamedFinals.{births_told, final_births}
-use Rattle.heap_parts.specs.Parts.{HeapParts}
-use Rattle.heap_parts.specs.Registers.{is_final}
+use Rattle.parts_model.specs.NamedFinals.{births_told, final_births}
+use Rattle.parts_model.specs.Parts.{HeapParts}
+use Rattle.parts_model.specs.Registers.{is_final}
 use Rattle.heap_parts.specs.contracts.parts.Parts.{the_view}
 use Rattle.heap_parts.proofs.FinalLaws.{births_listed, registered_ok}
 use Rattle.heap_parts.proofs.parts.Parts.register.Goals as goal

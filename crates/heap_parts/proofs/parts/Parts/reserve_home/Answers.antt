@@ -6,8 +6,8 @@ use Rattle.object_view.proofs.LayoutLaws.{laid_out}
 use Rattle.object_view.proofs.SpaceLaws.{lies-at}
 use Rattle.old_space.specs.HasBlocks.{IsLive}
 use Rattle.object_view.specs.declared.fields.ObjView.{ObjView}
-use Rattle.heap_parts.specs.Parts.{HeapParts, word_in}
-use Rattle.heap_parts.specs.Births.{TakesBlock, TakesNone, with_old_blocks}
+use Rattle.parts_model.specs.Parts.{HeapParts, word_in}
+use Rattle.parts_model.specs.Births.{TakesBlock, TakesNone, with_old_blocks}
 use Rattle.heap_parts.specs.contracts.parts.Parts.{the_view}
 use Rattle.heap_parts.proofs.HomeCalls.{block_live, block_there, object_there, taken_back, reserves, if_ok, if_err}
 use Rattle.heap_parts.proofs.parts.Parts.reserve_home.Goals as goal

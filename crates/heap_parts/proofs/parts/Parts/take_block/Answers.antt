@@ -1,6 +1,6 @@
 use Rattle.std.proofs.Common.{IfOk, OnErr, subst}
-use Rattle.heap_parts.specs.Parts.{HeapParts}
-use Rattle.heap_parts.specs.Births.{TakesBlock, TakesNone, with_old_blocks}
+use Rattle.parts_model.specs.Parts.{HeapParts}
+use Rattle.parts_model.specs.Births.{TakesBlock, TakesNone, with_old_blocks}
 use Rattle.heap_parts.specs.contracts.parts.Parts.{the_view}
 use Rattle.heap_parts.proofs.BirthCalls.{keeps_live, takes, takes_none}
 use Rattle.heap_parts.proofs.parts.Parts.take_block.Goals as goal

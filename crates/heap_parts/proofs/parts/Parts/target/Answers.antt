@@ -3,7 +3,7 @@ use Rattle.type_table.specs.declared.info.Shape.TheVariants.{Weak}
 use Rattle.heap_space.specs.Places.{word_at}
 use Rattle.object_model.specs.ObjectWords.{info_at}
 use Rattle.weak_lists.proofs.TargetLaws.{target-item}
-use Rattle.heap_parts.specs.Parts.{HeapParts, word_in, place_in}
+use Rattle.parts_model.specs.Parts.{HeapParts, word_in, place_in}
 use Rattle.heap_parts.proofs.parts.Parts.target.Goals as goal
 
 pub ref_at-requires-clause-item : goal.ref_at-requires-clause-item

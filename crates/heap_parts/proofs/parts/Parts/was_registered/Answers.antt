@@ -1,7 +1,7 @@
 use Rattle.std.proofs.Common.{ℕ, sym, ap, ◌∙◌}
-use Rattle.heap_parts.specs.Parts.{HeapParts}
-use Rattle.heap_parts.specs.Registers.{is_final}
-use Rattle.heap_parts.specs.Told.{if_there}
+use Rattle.parts_model.specs.Parts.{HeapParts}
+use Rattle.parts_model.specs.Registers.{is_final}
+use Rattle.parts_model.specs.Told.{if_there}
 use Rattle.heap_parts.proofs.FinalLaws.{registered_told}
 use Rattle.heap_parts.proofs.parts.Parts.was_registered.Goals as goal
 

@@ -12,8 +12,8 @@ use Rattle.object_view.specs.Births.{born_words}
 use Rattle.old_space.specs.HasBlocks.{HasBlocks, Stands, greatest_small}
 use Rattle.old_space.specs.Calls.{IsElsewhere}
 use Rattle.old_space.specs.declared.Old.{Old}
-use Rattle.heap_parts.specs.Parts.{HeapParts}
-use Rattle.heap_parts.specs.Headers.{keeps_cards}
+use Rattle.parts_model.specs.Parts.{HeapParts}
+use Rattle.parts_model.specs.Headers.{keeps_cards}
 
 -- the parts with a new object at a place, and in a slot: its header, so many items if it is an array, and its target if it is weak
 abbrev pub with_newborn : HeapParts → ℕ → ℕ → ℕ → TypeInfo → ℕ → ℕ → HeapParts

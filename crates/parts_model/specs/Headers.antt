@@ -10,7 +10,7 @@ use Rattle.text_model.specs.declared.line.Phase.{Phase}
 use Rattle.text_model.specs.declared.line.Phase.TheVariants.{Scanning, Marking, Sweeping, Finalizing}
 use Rattle.object_model.specs.Sets.{is_in}
 use Rattle.object_model.specs.ObjectWords.{info_at, layout_at}
-use Rattle.heap_parts.specs.OldSpace.{is_waiting}
+use Rattle.parts_model.specs.OldSpace.{is_waiting}
 
 -- a header without the flags of free blocks, and of the pass that orders finalizers
 pub record IsLiveHeader (word : ℕ) : Type 0 where

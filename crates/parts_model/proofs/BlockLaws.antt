@@ -18,8 +18,8 @@ use Rattle.old_space.specs.declared.Old.{Old}
 use Rattle.old_space.proofs.JoinLaws.{HasBlocks_untouched, HasBlocks_permuted}
 use Rattle.object_model.specs.Layout.{Layout}
 use Rattle.object_model.specs.Sets.{is_in}
-use Rattle.heap_parts.specs.Places.{block_at}
-use Rattle.heap_parts.proofs.SameLayouts.{SameLayouts}
+use Rattle.parts_model.specs.Places.{block_at}
+use Rattle.parts_model.proofs.SameLayouts.{SameLayouts}
 
 -- what holds of the block of each place holds of that of one of them
 pub each-member : (P : Extent → Type 0) (f : ℕ → Extent) (ps : List ℕ) (q : ℕ) → Each P (map f ps) → IsTrue (is_in q ps) → P (f q)

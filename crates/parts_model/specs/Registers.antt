@@ -3,8 +3,8 @@ use Rattle.std.specs.Prelude.{ℕ, ◌+◌, Bool, [], ◌∷◌, ◌++◌, Optio
 use Rattle.type_table.specs.Table.{value_at}
 use Rattle.object_model.specs.Sets.{is_in}
 use Rattle.store_model.specs.PlainCommands.{first_of, without_first}
-use Rattle.heap_parts.specs.NamedFinals.{NamedFinals, final_births}
-use Rattle.heap_parts.specs.Parts.{HeapParts, word_in}
+use Rattle.parts_model.specs.NamedFinals.{NamedFinals, final_births}
+use Rattle.parts_model.specs.Parts.{HeapParts, word_in}
 
 -- the birth of the object at a place
 abbrev pub birth_in : HeapParts → ℕ → ℕ

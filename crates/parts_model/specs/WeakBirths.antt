@@ -4,8 +4,8 @@ use Rattle.type_table.specs.declared.info.Shape.TheVariants.{Weak}
 use Rattle.type_table.specs.declared.info.TypeInfo.{TypeInfo}
 use Rattle.type_table.specs.Words.{words_in}
 use Rattle.nursery_gaps.specs.Nursery.{Fits}
-use Rattle.heap_parts.specs.Parts.{HeapParts}
-use Rattle.heap_parts.specs.Births.{HasNurseryRoom, HasOldRoom, BearsYoung, BearsOld}
+use Rattle.parts_model.specs.Parts.{HeapParts}
+use Rattle.parts_model.specs.Births.{HasNurseryRoom, HasOldRoom, BearsYoung, BearsOld}
 
 -- the parts where one more place is listed as that of a weak object
 abbrev pub with_listed : HeapParts → ℕ → HeapParts

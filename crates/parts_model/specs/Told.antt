@@ -10,8 +10,8 @@ use Rattle.object_model.specs.declared.kind.Kind.{Kind}
 use Rattle.object_model.specs.ObjectWords.{info_at, layout_at}
 use Rattle.store_model.specs.Structs.{state_of, p_link_of}
 use Rattle.store_model.specs.Look.{Look}
-use Rattle.heap_parts.specs.Parts.{HeapParts, word_in, place_in}
-use Rattle.heap_parts.specs.Registers.{is_final}
+use Rattle.parts_model.specs.Parts.{HeapParts, word_in, place_in}
+use Rattle.parts_model.specs.Registers.{is_final}
 
 -- the shape of the object at a place, and how many whole numbers and references it has
 abbrev pub kind_from : Table TypeInfo → (ℕ → ℕ) → ℕ → Kind

@@ -3,8 +3,8 @@ use Rattle.std.specs.Prelude.{◌≡◌, ℕ, ◌+◌, ◌^◌, ◌<◌, ◌≤�
 use Rattle.heap_space.specs.Places.{has}
 use Rattle.remember_cards.specs.Remembered.{RemembersMore, is_held}
 use Rattle.remember_cards.specs.Tracking.{IsTracked, items_head}
-use Rattle.heap_parts.specs.Parts.{HeapParts, word_in}
-use Rattle.heap_parts.specs.Effects.{with_word_at}
+use Rattle.parts_model.specs.Parts.{HeapParts, word_in}
+use Rattle.parts_model.specs.Effects.{with_word_at}
 
 -- the flags of the object at a place tell what is remembered of it
 pub record CanRemember (heap : HeapParts) (place item count : ℕ) : Type 0 where

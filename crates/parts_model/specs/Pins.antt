@@ -3,8 +3,8 @@ use Rattle.std.specs.Prelude.{ℕ, ◌-◌, nat_lt, if◌then◌else◌}
 use Rattle.object_header.specs.Words.{with_flag, without_flag}
 use Rattle.object_header.specs.declared.flags.Flag.TheVariants.{Pinned}
 use Rattle.store_model.specs.Identity.{pin_count, pinned_more, pinned_less}
-use Rattle.heap_parts.specs.Parts.{HeapParts, word_in}
-use Rattle.heap_parts.specs.Effects.{with_word_at}
+use Rattle.parts_model.specs.Parts.{HeapParts, word_in}
+use Rattle.parts_model.specs.Effects.{with_word_at}
 
 -- the first word of a pinned object with so many pins left
 abbrev pub left_word : ℕ → ℕ → ℕ

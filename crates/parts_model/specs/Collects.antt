@@ -8,8 +8,8 @@ use Rattle.store_model.specs.Roots.{is_kept, pinned_births}
 use Rattle.store_model.specs.MarkingOrder.{VisitsQueued}
 use Rattle.store_model.specs.MinorCollection.{MinorCollection}
 use Rattle.store_model.specs.Collections.{MajorStep}
-use Rattle.heap_parts.specs.Parts.{HeapParts, word_in}
-use Rattle.heap_parts.specs.StandsFor.{PartsStandFor}
+use Rattle.parts_model.specs.Parts.{HeapParts, word_in}
+use Rattle.parts_model.specs.StandsFor.{PartsStandFor}
 
 -- each object of the nursery is pinned
 abbrev pub AreAllPinned : Store → Type 0

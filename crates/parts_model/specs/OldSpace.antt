@@ -11,7 +11,7 @@ use Rattle.object_model.specs.ObjectWords.{words_at}
 use Rattle.old_space.specs.HasBlocks.{HasBlocks}
 use Rattle.size_pages.specs.Calls.{page_of}
 use Rattle.old_space.specs.declared.Old.{Old}
-use Rattle.heap_parts.specs.Places.{block_at}
+use Rattle.parts_model.specs.Places.{block_at}
 
 -- the block that is reserved for the object at a place, if one is: it has just the object's words
 abbrev pub reserved_block : Table TypeInfo → (ℕ → ℕ) → (ℕ → Option ℕ) → ℕ → Option Extent

@@ -6,7 +6,7 @@ use Rattle.store_model.specs.Store.{Struct}
 use Rattle.store_model.specs.Structs.{Structs, object_of, with_objects}
 use Rattle.object_model.specs.ObjectWords.{renamed}
 use Rattle.object_model.specs.Holds.{IsPointer}
-use Rattle.heap_parts.specs.Places.{AreAmong}
+use Rattle.parts_model.specs.Places.{AreAmong}
 
 -- each slot is as in the store, where its object goes by its birth
 pub record HoldsSlots (slots : List ℕ) (places : List ℕ) (name : ℕ → ℕ) (roots : ℕ) (stored : List (Option ℕ)) : Type 0 where

@@ -7,8 +7,8 @@ use Rattle.object_header.specs.declared.flags.Flag.TheVariants.{HasShadow, Shado
 use Rattle.object_model.specs.ObjectWords.{words_at}
 use Rattle.object_view.specs.Views.{HasObject}
 use Rattle.old_space.specs.HasBlocks.{Stands}
-use Rattle.heap_parts.specs.Parts.{HeapParts, word_in, home_in}
-use Rattle.heap_parts.specs.Births.{TakesBlock}
+use Rattle.parts_model.specs.Parts.{HeapParts, word_in, home_in}
+use Rattle.parts_model.specs.Births.{TakesBlock}
 
 -- the first word of a home that is reserved
 abbrev pub shadow_word : ℕ

@@ -7,7 +7,7 @@ use Rattle.object_model.specs.ObjectWords.{layout_at}
 use Rattle.object_header.specs.Words.{without_flag}
 use Rattle.object_header.specs.declared.flags.Flag.TheVariants.{Track}
 use Rattle.remember_cards.specs.Remembered.{with_whole}
-use Rattle.heap_parts.specs.Parts.{HeapParts, word_in, place_in}
+use Rattle.parts_model.specs.Parts.{HeapParts, word_in, place_in}
 
 -- where the parts of the object in a slot lie
 abbrev pub layout_in : HeapParts → ℕ → Layout

@@ -15,7 +15,7 @@ use Rattle.store_model.specs.Structs.{Structs}
 use Rattle.old_space.specs.HasBlocks.{page_size, HasBlocks, greatest_small}
 use Rattle.old_space.specs.declared.Old.{Old}
 use Rattle.remember_cards.specs.Remembered.{Remembered, nothing_held}
-use Rattle.heap_parts.specs.NamedFinals.{NamedFinals, named_finals}
+use Rattle.parts_model.specs.NamedFinals.{NamedFinals, named_finals}
 
 -- what a heap has that was started; objects go by their places
 pub record HeapParts : Type 0 where

@@ -11,8 +11,8 @@ use Rattle.object_view.proofs.LayoutLaws.{KeepsLayout}
 use Rattle.object_model.specs.Sets.{is_in}
 use Rattle.object_model.specs.Layout.{Layout}
 use Rattle.object_model.specs.ObjectWords.{words_at}
-use Rattle.heap_parts.specs.Nursery.{IsWalk}
-use Rattle.heap_parts.specs.Places.{AreWhole}
+use Rattle.parts_model.specs.Nursery.{IsWalk}
+use Rattle.parts_model.specs.Places.{AreWhole}
 
 -- the words v have the layouts of the words w at these places
 abbrev pub SameLayouts : Table TypeInfo → (ℕ → ℕ) → (ℕ → ℕ) → List ℕ → Type 0

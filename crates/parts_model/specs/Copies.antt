@@ -1,8 +1,8 @@
 -- References are copied from the object in one slot to that in another.
 use Rattle.std.specs.Prelude.{ℕ, List}
 use Rattle.heap_space.specs.Places.{Placed, with_run, run_at}
-use Rattle.heap_parts.specs.Parts.{HeapParts}
-use Rattle.heap_parts.specs.Effects.{ref_place}
+use Rattle.parts_model.specs.Parts.{HeapParts}
+use Rattle.parts_model.specs.Effects.{ref_place}
 
 -- the heap with other words
 abbrev pub heap_with : HeapParts → List Placed → HeapParts

@@ -22,15 +22,15 @@ use Rattle.store_model.specs.MarkingOrder.{IsInOrder}
 use Rattle.old_space.specs.HasBlocks.{page_size, greatest_small}
 use Rattle.old_space.specs.declared.Old.{Old}
 use Rattle.remember_cards.specs.Remembered.{Remembered, held_places, is_held_of}
-use Rattle.heap_parts.specs.NamedFinals.{NamedFinals, named_finals}
-use Rattle.heap_parts.specs.Parts.{HeapParts, word_in, home_in}
-use Rattle.heap_parts.specs.Places.{young_places, old_places, AreAmong, AreWhole, OfFirsts, RiseBetween, is_weak_at}
-use Rattle.heap_parts.specs.Nursery.{HoldsNursery, IsUngapped}
-use Rattle.heap_parts.specs.OldSpace.{HoldsBlocks, HoldsHusks, AreUnitsSwept, AreReservedForYoung, AreHomes, reserved_homes}
-use Rattle.heap_parts.specs.Headers.{IsSettledHeader, IsHuskHeader, IsShadowHeader, IsYoungHeader, is_marked, IsCarded}
+use Rattle.parts_model.specs.NamedFinals.{NamedFinals, named_finals}
+use Rattle.parts_model.specs.Parts.{HeapParts, word_in, home_in}
+use Rattle.parts_model.specs.Places.{young_places, old_places, AreAmong, AreWhole, OfFirsts, RiseBetween, is_weak_at}
+use Rattle.parts_model.specs.Nursery.{HoldsNursery, IsUngapped}
+use Rattle.parts_model.specs.OldSpace.{HoldsBlocks, HoldsHusks, AreUnitsSwept, AreReservedForYoung, AreHomes, reserved_homes}
+use Rattle.parts_model.specs.Headers.{IsSettledHeader, IsHuskHeader, IsShadowHeader, IsYoungHeader, is_marked, IsCarded}
 use Rattle.remember_cards.specs.Tracking.{IsTracked}
-use Rattle.heap_parts.specs.Lists.{HoldsSlots, HoldsEntries, HoldsQueues, HoldsLinks}
-use Rattle.heap_parts.specs.Order.{OrderOf, IsGrayOf, IsInOrderButYoung}
+use Rattle.parts_model.specs.Lists.{HoldsSlots, HoldsEntries, HoldsQueues, HoldsLinks}
+use Rattle.parts_model.specs.Order.{OrderOf, IsGrayOf, IsInOrderButYoung}
 
 -- The objects stand whole at their places, those of the nursery in its used ranges. Each block outside the nursery holds a
 -- settled object or a husk, or is reserved as the home of an object of the nursery, and has just that object's words.

@@ -1,0 +1,3 @@
+pub mod SameLayouts
+pub mod BlockLaws
+pub mod QueueTables
