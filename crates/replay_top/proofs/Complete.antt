@@ -14,8 +14,8 @@ complete_err None begun begun_after rest before written heap stop status read_ro
 complete_err (Some script) begun begun_after rest before written heap (Malformed k reason) status read_rose write_rose ends is read write = λ never no_read no_write.
     absurd (never ends.front ends.unit ends.behind ends.stands.text ends.stands.after ends.units ends.stands.done (inl (reason, ends.refused)))
 complete_err (Some script) begun begun_after rest before written heap (HeapLimit k counted request limit) status read_rose write_rose ends is read write = λ never no_read no_write.
-    absurd (never ends.front ends.unit ends.behind ends.text ends.mid ends.units ends.done
-    (inr (counted, request, limit, ends.groups, ends.after, ends.exceeds)))
+    let e = ends.stops in
+    absurd (never e.front e.unit e.behind e.text e.mid e.units e.done (inr (counted, request, limit, e.groups, e.after, e.exceeds)))
 complete_err (Some script) begun begun_after rest before written heap OutOfMemory status read_rose write_rose ends is read write = λ never no_read no_write. inr is
 complete_err (Some script) begun begun_after rest before written heap ReadFault status read_rose write_rose ends is read write = λ never no_read no_write. absurd (no_read (read refl))
 complete_err (Some script) begun begun_after rest before written heap WriteFault status read_rose write_rose ends is read write = λ never no_read no_write. absurd (no_write (write refl))

@@ -1,5 +1,6 @@
 pub mod Complete
 pub mod DoneLaws
+pub mod LimitLaws
 pub mod Pieces
 pub mod RunEnds
 pub mod RunsOn

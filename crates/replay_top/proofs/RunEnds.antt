@@ -100,19 +100,22 @@ ends_by script begun begun_after rest rest_after before written written_after re
 ends_by script begun begun_after rest rest_after before written written_after reader number unit behind session session_after heap heap_after (HeapLimit k counted_words request limit) run units counted ends =
     let e = ends.1 in
     record {
-      front = run.units;
-      unit = unit;
-      behind = behind;
-      units = units;
-      number = ends.0 ∙ ap (λ n. n + 1) counted;
-      mid = run.at;
-      text = run.text;
-      done = run.done;
-      groups = e.groups;
-      after = e.after;
-      exceeds = e.exceeds;
-      appended = Appends-trans before written written_after run.text (transcript_text e.groups) run.appended e.text;
-      stands_for = heap_stands session_after heap_after e.after e.stands;
+      stops = record {
+        front = run.units;
+        unit = unit;
+        behind = behind;
+        units = units;
+        number = ends.0 ∙ ap (λ n. n + 1) counted;
+        mid = run.at;
+        text = run.text;
+        done = run.done;
+        groups = e.groups;
+        after = e.after;
+        exceeds = e.exceeds;
+        appended = Appends-trans before written written_after run.text (transcript_text e.groups) run.appended e.text;
+        stands_for = heap_stands session_after heap_after e.after e.stands;
+      };
+      retained = e.retained;
     }
 ends_by script begun begun_after rest rest_after before written written_after reader number unit behind session session_after heap heap_after ReadFault run units counted ends = absurd ends
 ends_by script begun begun_after rest rest_after before written written_after reader number unit behind session session_after heap heap_after WriteFault run units counted ends = record {

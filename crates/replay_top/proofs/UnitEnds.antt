@@ -21,6 +21,7 @@ use Rattle.session_core.proofs.Places.{in_range_at}
 use Rattle.script_convert.specs.Written.{WritesPart}
 use Rattle.replay_top.specs.Written.{WritesLines}
 use Rattle.replay_top.specs.Units.{EndsUnit}
+use Rattle.replay_top.proofs.LimitLaws.{retained_exceed}
 use Rattle.replay_top.specs.declared.line.Stop.{Stop}
 use Rattle.replay_top.specs.declared.line.Stop.TheVariants.{Malformed, HeapLimit, OutOfMemory, ReadFault, WriteFault}
 
@@ -72,15 +73,16 @@ unit_done p k unit item before_lines lines before written session heap (Err (Hea
 unit_done p k unit item before_lines lines before written session heap (Err ReadFault) s none does text = absurd text
 
 -- the same of a unit that the limit refused
-pub unit_exceeds : (p : Progress) (k : ℕ) (unit : Said) (item : Item) (counted request limit : ℕ) (before_lines lines : List Line) (before written : Option (List ℕ)) (session : SessionSeen) (heap : HeapSeen)
-    → Says unit item → before_lines ≡ [] → ExceedsItem session heap p item counted request limit before_lines lines → Appends before written (lines_text lines)
+pub unit_exceeds : (p : Progress) (k : ℕ) (unit : Said) (item : Item) (counted request limit : ℕ) (before_lines lines : List Line) (before written : Option (List ℕ)) (old session : SessionSeen) (old_heap heap : HeapSeen)
+    → StandsAt old old_heap p → Says unit item → before_lines ≡ [] → ExceedsItem session heap p item counted request limit before_lines lines → Appends before written (lines_text lines)
     → EndsUnit p k unit before written session heap (Err (HeapLimit k counted request limit))
-unit_exceeds p k unit item counted request limit before_lines lines before written session heap s none e text = (
+unit_exceeds p k unit item counted request limit before_lines lines before written old session old_heap heap stands s none e text = (
   refl,
   record {
     groups = e.groups;
     after = e.next;
     exceeds = exceeds_unit p k unit item counted request limit before_lines lines session heap s e;
+    retained = retained_exceed p item counted request limit before_lines lines old session old_heap heap stands e;
     text = let P : List ℕ → Type 0 = Appends before written in subst P (text_appended before_lines lines e.groups none e.lines) text;
     stands = e.stands;
   },

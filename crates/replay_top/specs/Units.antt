@@ -10,6 +10,7 @@ use Rattle.heap_core.specs.Heap.{HeapSeen}
 use Rattle.session_core.specs.Standing.{StandsAt}
 use Rattle.replay_top.specs.declared.line.Stop.{Stop}
 use Rattle.replay_top.specs.declared.line.Stop.TheVariants.{Malformed, HeapLimit, OutOfMemory, ReadFault, WriteFault}
+use Rattle.store_model.specs.CollectionBounds.{RetainedExceed}
 use Rattle.store_model.specs.EndOfRun.{IsRefused, TakesUnit, ExceedsLimit, AddsGroups}
 
 -- The unit was done, and its text is written.
@@ -20,11 +21,12 @@ pub record DoesUnit (at : Progress) (unit : Said) (before written : Option (List
   pub text : Appends before written (transcript_text groups)
   pub stands : StandsAt session heap after
 
--- The limit refused the unit with these numbers, and the text of its collections is written.
+-- The limit refused the unit with these numbers, since what was retained before it leaves no room, and the text of its collections is written.
 pub record ExceedsUnit (at : Progress) (unit : Said) (counted request limit : ℕ) (before written : Option (List ℕ)) (session : SessionSeen) (heap : HeapSeen) : Type 0 where
   pub groups : List Group
   pub after : Progress
   pub exceeds : ExceedsLimit at unit counted request limit groups after
+  pub retained : RetainedExceed at.setup.settings at.store request
   pub text : Appends before written (transcript_text groups)
   pub stands : StandsAt session heap after
 

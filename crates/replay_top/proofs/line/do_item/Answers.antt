@@ -38,8 +38,8 @@ returns-in-Ok-write_lines-clause-ends g c = λ p at.
     let after = g.K.Sink.written c.write_lines-in-Err-HeapLimit.new.out in
     let answer = rw c.in-Err-HeapLimit.field-0-is at c.in-Err-HeapLimit.ensures.answers p at in
     unit_exceeds p c.args.number (Ok (Some c.args.item.now)) c.args.item.now c.in-Err-HeapLimit.counted c.in-Err-HeapLimit.request c.in-Err-HeapLimit.limit
-    c.clear.new.self.items c.item.new.out.items before after c.item.new.self c.item.new.heap
-    (says_item c.args.item.now) c.clear.ensures.items answer
+    c.clear.new.self.items c.item.new.out.items before after c.args.session.now c.item.new.self c.args.heap.now c.item.new.heap
+    at (says_item c.args.item.now) c.clear.ensures.items answer
     (subst (λ (l : List Line). Appends before after (lines_text l)) c.deref-in-Err-HeapLimit.ensures.value c.in-Ok-write_lines.ensures.ends)
 
 pub returns-in-Err-clause-ends : goal.returns-in-Err-clause-ends
