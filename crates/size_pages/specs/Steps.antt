@@ -58,19 +58,19 @@ pub record IsOnlyHeads (old new : Pages) : Type 0 where
   pub room : length new.heads.items ≡ length old.heads.items
   pub order : new.order ≡ old.order
 
--- the page is on that list, which is not that of the waiting ones
+-- the page is on that list of its class
 pub record CanTakeOff (pages : Pages) (m : Memory) (page list : ℕ) : Type 0 where
   pub stands : Stands pages m
   pub is_page : IsPage pages.page pages.count page
   pub is_list : list ≡ list_of (word_in m) page
-  pub not_waiting : list ≢ 1
+  pub low : 2 ≤ list
 
 -- the page is on no list, and its words call for that one
 pub record CanPutOn (pages : Pages) (m : Memory) (page list kind : ℕ) : Type 0 where
   pub stands : StandsBut pages m page
   pub is_page : IsPage pages.page pages.count page
   pub is_list : list ≡ list_number kind (word_in m page)
-  pub not_waiting : list ≢ 1
+  pub low : 2 ≤ list
   pub in_heads : list < length pages.heads.items
   pub right : IsRight kind (word_in m) pages.page page
 
@@ -103,11 +103,3 @@ pub record CanTakeUnlisted (pages : Pages) (m : Memory) (page n : ℕ) : Type 0 
   pub low : 2 ≤ n
   pub small : n ≤ pages.small
   pub room : HasRoom (word_in m) pages.page page
-
--- the page, on no list, is unused and may get the class n
-pub record CanStart (pages : Pages) (m : Memory) (page n : ℕ) : Type 0 where
-  pub stands : StandsBut pages m page
-  pub is_page : IsPage pages.page pages.count page
-  pub unused : word_in m page ≡ 0
-  pub low : 2 ≤ n
-  pub small : n ≤ pages.small

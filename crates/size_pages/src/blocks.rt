@@ -8,7 +8,7 @@ use crate::words::{load, store};
 use heap_space::Space;
 use object_header::Flag;
 
-/// The list that word 6 of a page's header names.
+/// The list that word 6 of a page's header names: none, for an unused page.
 pub const UNUSED: u64 = 0;
 
 pub const ROOM: u64 = 1;
@@ -92,7 +92,7 @@ pub fn put_on_chain(space: &mut Space, page: u64, block: u64)
     store(space, page + 2, count - 1);
 }
 
-/// Makes the page one of no class.
+/// Makes the page one of no class, on no list.
 pub fn clear_page(space: &mut Space, page: u64)
     requires { HasAll space.old page (page + 8) }
     ensures clears { Clears (word_in space.old) (word_in space.new) page }
@@ -102,6 +102,7 @@ pub fn clear_page(space: &mut Space, page: u64)
     store(space, page + 1, 0);
     store(space, page + 2, 0);
     store(space, page + 3, 0);
+    store(space, page + 6, UNUSED);
 }
 
 /// Makes the page, which has no block, one of n words.
