@@ -6,15 +6,15 @@ use Rattle.heap_space.specs.Extents.{Extent}
 use Rattle.size_pages.specs.PageWords.{Words, word_in, IsInArenas}
 use Rattle.size_pages.specs.LiveBlocks.{page_at}
 use Rattle.size_pages.specs.PageLists.{EachPlace, IsPage, list_number, list_of, IsListedRightly, ListsFit, HasRoom, Unlinks, SameSigns}
-use Rattle.size_pages.specs.HasBlocks.{HasBlocks, HasBlocksBut, Stands}
+use Rattle.size_pages.specs.HasBlocks.{HasBlocks, HasBlocksBut, Stands, KeepsSizes}
 use Rattle.size_pages.specs.Growth.{BeginsPage}
 use Rattle.size_pages.specs.Calls.{IsInNone, TakesFrom, TakesFirst, AddsArena}
 use Rattle.size_pages.specs.Moves.{FindsPage}
-use Rattle.size_pages.specs.Steps.{IsOnlyHeads, TakesNext}
+use Rattle.size_pages.specs.Steps.{IsOnlyHeads, IsOpen, TakesNext}
 use Rattle.size_pages.specs.declared.Pages.{Pages}
 use Rattle.size_pages.proofs.FitLaws.{pages_apart}
 use Rattle.size_pages.proofs.ListLaws.{places_map, places_both}
-use Rattle.size_pages.proofs.TakeLaws.{FirstWithRoom, first_with_room, can_take_first}
+use Rattle.size_pages.proofs.TakeLaws.{first_with_room, can_take_first}
 use Rattle.size_pages.proofs.KeepLaws.{off_keeps}
 use Rattle.size_pages.proofs.AroundLaws.{sizes_heads}
 use Rattle.size_pages.proofs.GrowthLaws.{none_has_room, arenas_outside}
@@ -57,11 +57,11 @@ in_none w size count p a waiting all n is free low high =
 list_two : (kind class n : ℕ) → 2 ≤ n → list_number kind class ≡ 2 * n → kind ≢ 3
 list_two kind class n two e = grind (arith, nat_tests)
 
-pub first_not_waiting : (pages : Pages) (m : Memory) (page n : ℕ) → 2 ≤ n → FirstWithRoom pages m page n → word_in m (page + 6) ≢ 3
+pub first_not_waiting : (pages : Pages) (m : Memory) (page n : ℕ) → 2 ≤ n → IsOpen pages m page n → word_in m (page + 6) ≢ 3
 first_not_waiting pages m page n two g = list_two (word_in m (page + 6)) (word_in m page) n two (sym g.off.is_list)
 
 -- the block comes from a page with room
-pub from_first : (pages : Pages) (m : Memory) (page n : ℕ) → 2 ≤ n → FirstWithRoom pages m page n → TakesFrom (word_in m) pages.page pages.count n page
+pub from_first : (pages : Pages) (m : Memory) (page n : ℕ) → 2 ≤ n → IsOpen pages m page n → TakesFrom (word_in m) pages.page pages.count n page
 from_first pages m page n two g = record {
   class = inl g.class;
   full = λ z. absurd (let e : n ≡ 0 = sym g.class ∙ z in omega arith);
@@ -69,7 +69,7 @@ from_first pages m page n two g = record {
 }
 
 -- and is the first of its chain, or the first that was never handed out
-pub next_first : (pages : Pages) (m off : Memory) (page n a : ℕ) → 2 ≤ n → FirstWithRoom pages m page n → SameSigns (word_in m) (word_in off) page → TakesNext (word_in off) page a → TakesFirst (word_in m) page a
+pub next_first : (pages : Pages) (m off : Memory) (page n a : ℕ) → 2 ≤ n → IsOpen pages m page n → SameSigns (word_in m) (word_in off) page → TakesNext (word_in off) page a → TakesFirst (word_in m) page a
 next_first pages m off page n a two g same t =
     let w = word_in m in record {
       chained = λ used some. t.chained (λ z. some (sym same.chain ∙ z)) ∙ same.chain;
@@ -84,7 +84,7 @@ next_begun pages after m new page n a b t = record {
   begun = λ z. t.fresh b.empty.chain ∙ b.empty.fresh;
 }
 
-pub arena_first : (pages : Pages) (m new : Memory) (page n : ℕ) → 2 ≤ n → Stands pages m → FirstWithRoom pages m page n → new.next_arena ≡ m.next_arena → AddsArena (word_in m) pages.page pages.count n m new
+pub arena_first : (pages : Pages) (m new : Memory) (page n : ℕ) → 2 ≤ n → Stands pages m → IsOpen pages m page n → new.next_arena ≡ m.next_arena → AddsArena (word_in m) pages.page pages.count n m new
 arena_first pages m new page n two st g same =
     let some : 0 < m.arena_words = some_words pages m st in
     let k = g.off.is_page.number in
@@ -171,3 +171,10 @@ arena_later w size count n m after last h same = record {
 
 pub heads_grown : (pages grown : Pages) → grown ≡ record pages { heads = grown.heads } → 2 * pages.small + 2 ≤ length grown.heads.items → 2 * grown.small + 2 ≤ length grown.heads.items
 heads_grown pages grown e long = subst (λ (k : ℕ). 2 * k + 2 ≤ length grown.heads.items) (sym (ap (λ (p : Pages). p.small) e)) long
+
+pub sizes_grown : (pages grown : Pages) → grown ≡ record pages { heads = grown.heads } → KeepsSizes pages grown
+sizes_grown pages grown e = record {
+  page = ap (λ (p : Pages). p.page) e;
+  pages_per_arena = ap (λ (p : Pages). p.pages_per_arena) e;
+  small = ap (λ (p : Pages). p.small) e;
+}

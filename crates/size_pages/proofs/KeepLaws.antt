@@ -8,7 +8,7 @@ use Rattle.size_pages.specs.PageWords.{word_in, IsInArenas, GivesBack, Starts, C
 use Rattle.size_pages.specs.LiveBlocks.{page_at, IsInPages}
 use Rattle.size_pages.specs.PageLists.{first_of_list, IsPage, Unlinks, Links}
 use Rattle.size_pages.specs.HasBlocks.{HasBlocksBut, HasBlocks}
-use Rattle.size_pages.specs.Steps.{CanTakeOff, CanTakeUnlisted}
+use Rattle.size_pages.specs.Steps.{CanTakeOff, CanTakeFrom, CanTakeUnlisted}
 use Rattle.size_pages.specs.declared.Pages.{Pages}
 use Rattle.size_pages.proofs.FitLaws.{pages_apart}
 use Rattle.size_pages.proofs.ListMoves.{not_zero, first_page}
@@ -76,12 +76,12 @@ links_keep pages after m new page list kind live waiting is_page u f =
 inside_apart : (x y : Extent) (e : ℕ) → 0 < x.1 → IsApart x y → IsInside y e → e ≢ x.0
 inside_apart x y e some a h = elim a [ inl p ↦ (λ same. omega (arith, same, h.0)) | inr q ↦ (λ same. omega (arith, same, h.1)) ]
 
-pub taken_keeps : (pages : Pages) (m new : Memory) (page n x : ℕ) → CanTakeUnlisted pages m page n → Taken (word_in m) (word_in new) page n x → IsInArenas m new → (live : List Extent) (waiting : List ℕ) → HasBlocksBut pages m live waiting page → KeepsWords m new live
-taken_keeps pages m new page n x c t s live waiting f =
+pub taken_kept : {except : ℕ} (pages : Pages) (m new : Memory) (page n x : ℕ) → CanTakeFrom pages m except page n → Taken (word_in m) (word_in new) page n x
+    → (live : List Extent) (waiting : List ℕ) → HasBlocksBut pages m live waiting except → HasBlocksBut pages new ((x, n) ∷ live) waiting except → KeepsWords m new live
+taken_kept pages m new page n x c t live waiting f after =
     let size = pages.page in
     let count = pages.count in
     let two : 2 ≤ n = c.low in
-    let after = taken_fits pages m new page n x c t s live waiting f in
     Each-both (IsInPages size count) (IsApart (x, n)) (λ y. (e : ℕ) → IsInside y e → word_in new e ≡ word_in m e) (λ y is apart e i.
     let at = at_block size count e y is i in
     let away : e ≢ x = inside_apart (x, n) y e (omega arith) apart i in
@@ -90,6 +90,9 @@ taken_keeps pages m new page n x c t s live waiting f =
       | inl z ↦ (t.fresh z.1).rest e (head 2 (omega arith)) (head 3 (omega arith)) (head 3 (omega arith)) away
       | inr z ↦ (t.chained z.1).rest e (head 1 (omega arith)) (head 2 (omega arith)) (head 2 (omega arith)) away
     ]) live f.blocks.inside after.blocks.apart.0
+
+pub taken_keeps : (pages : Pages) (m new : Memory) (page n x : ℕ) → CanTakeUnlisted pages m page n → Taken (word_in m) (word_in new) page n x → IsInArenas m new → (live : List Extent) (waiting : List ℕ) → HasBlocksBut pages m live waiting page → KeepsWords m new live
+taken_keeps pages m new page n x c t s live waiting f = taken_kept pages m new page n x c t live waiting f (taken_fits pages m new page n x c t s live waiting f)
 
 pub taken_clear : (m new : Memory) (page n x : ℕ) → Taken (word_in m) (word_in new) page n x → word_in new x ≡ 0
 taken_clear m new page n x t = elim (eqb_tells (word_in m (page + 1)) 0) [ inl z ↦ (t.fresh z.1).cleared | inr y ↦ (t.chained y.1).cleared ]

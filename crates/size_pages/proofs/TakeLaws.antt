@@ -7,9 +7,10 @@ use Rattle.size_pages.specs.PageWords.{Words, word_in, IsInArenas, IsBlockOf, Pa
 use Rattle.size_pages.specs.LiveBlocks.{page_at, blocks_of, BlocksFit, PageIs}
 use Rattle.size_pages.specs.PageLists.{EachPlace, first_of_list, IsPage, list_number, list_of, IsListedRightly, SameSigns, HasRoom}
 use Rattle.size_pages.specs.HasBlocks.{HasBlocksBut, HasBlocks, Stands}
-use Rattle.size_pages.specs.Steps.{CanTake, CanTakeUnlisted, CanTakeOff, CanPutOn, IsOnlyHeads}
+use Rattle.size_pages.specs.Steps.{CanTake, CanTakeFrom, CanTakeUnlisted, IsOpen, CanTakeOff, CanPutOn, IsOnlyHeads}
 use Rattle.size_pages.specs.Calls.{page_of}
 use Rattle.size_pages.specs.declared.Pages.{Pages}
+use Rattle.size_pages.proofs.ListMoves.{SameLinks}
 use Rattle.size_pages.proofs.PageLaws.{holds_chained, holds_fresh}
 use Rattle.size_pages.proofs.FitLaws.{fits_more, stays_elsewhere}
 use Rattle.size_pages.proofs.FitsLaws.{page_facts, header_has, below_of, places_of}
@@ -42,7 +43,7 @@ head_of w size p n (x ∷ fs) live h class some =
     let wide : x.1 ≡ n = h.blocks.0.0 ∙ class in
     record { rest = fs; holds = subst (λ (a : ℕ). PageHolds w size p ((a, n) ∷ fs) live) place (subst (λ (k : ℕ). PageHolds w size p ((x.0, k) ∷ fs) live) wide h) }
 
-pub can_take : (pages : Pages) (m : Memory) (page n : ℕ) → CanTakeUnlisted pages m page n → CanTake m page n
+pub can_take : {except : ℕ} (pages : Pages) (m : Memory) (page n : ℕ) → CanTakeFrom pages m except page n → CanTake m page n
 can_take pages m page n c =
     let f = c.stands.fits in
     let size = pages.page in
@@ -81,7 +82,7 @@ pub record Taken (old new : Words) (p n x : ℕ) : Type 0 where
   pub fresh : old (p + 1) ≡ 0 → TakesFresh old new p x n
 
 -- the block lies in the page, behind its header
-pub taken_place : (pages : Pages) (m new : Memory) (page n x : ℕ) → CanTakeUnlisted pages m page n → Taken (word_in m) (word_in new) page n x → (page + 8 ≤ x) × (x + n ≤ page + pages.page)
+pub taken_place : {except : ℕ} (pages : Pages) (m new : Memory) (page n x : ℕ) → CanTakeFrom pages m except page n → Taken (word_in m) (word_in new) page n x → (page + 8 ≤ x) × (x + n ≤ page + pages.page)
 taken_place pages m new page n x c t =
     let f = c.stands.fits in
     let size = pages.page in
@@ -101,7 +102,7 @@ taken_place pages m new page n x c t =
           let high : w (page + 1) + n ≤ w (page + 3) = block.2 in (omega arith, omega arith))
     ]
 
-pub taken_page : (pages : Pages) (m new : Memory) (page n x : ℕ) → CanTakeUnlisted pages m page n → Taken (word_in m) (word_in new) page n x → page ≡ page_of pages.page x
+pub taken_page : {except : ℕ} (pages : Pages) (m new : Memory) (page n x : ℕ) → CanTakeFrom pages m except page n → Taken (word_in m) (word_in new) page n x → page ≡ page_of pages.page x
 taken_page pages m new page n x c t =
     let place = taken_place pages m new page n x c t in
     let size = pages.page in
@@ -113,8 +114,8 @@ taken_page pages m new page n x c t =
     let high : x + n ≤ page + size = place.1 in
     at ∙ ap (page_at size) (sym (page_number size k x wide (omega arith) (omega arith)))
 
-pub taken_fits : (pages : Pages) (m new : Memory) (page n x : ℕ) → CanTakeUnlisted pages m page n → Taken (word_in m) (word_in new) page n x → IsInArenas m new → (live : List Extent) (waiting : List ℕ) → HasBlocksBut pages m live waiting page → HasBlocksBut pages new ((x, n) ∷ live) waiting page
-taken_fits pages m new page n x c t s live waiting f =
+pub taken_from : {except : ℕ} (pages : Pages) (m new : Memory) (page n x : ℕ) → CanTakeFrom pages m except page n → Taken (word_in m) (word_in new) page n x → IsInArenas m new → (page ≢ except → SameLinks (word_in m) (word_in new) page × IsListedRightly (word_in new) pages.page page) → (live : List Extent) (waiting : List ℕ) → HasBlocksBut pages m live waiting except → HasBlocksBut pages new ((x, n) ∷ live) waiting except
+taken_from {except} pages m new page n x c t s listed live waiting f =
     let size = pages.page in
     let count = pages.count in
     let w = word_in m in
@@ -127,12 +128,12 @@ taken_fits pages m new page n x c t s live waiting f =
     let h = q.holds in
     let fresh_low : page + 8 ≤ w (page + 3) = h.fresh_low in
     let fresh_high : w (page + 3) ≤ page + size = h.fresh_high in
-    let make : (free : List Extent) → PageHolds now size page free ((x, n) ∷ blocks_of size page live) → IsOnlyPage w now page size → w page ≡ now page → now (page + 7) ≡ w (page + 7) → HasBlocksBut pages new ((x, n) ∷ live) waiting page = λ free holds only same last.
-    page_changes pages m new live ((x, n) ∷ live) waiting page page f c.is_page s only
+    let make : (free : List Extent) → PageHolds now size page free ((x, n) ∷ blocks_of size page live) → IsOnlyPage w now page size → w page ≡ now page → now (page + 7) ≡ w (page + 7) → HasBlocksBut pages new ((x, n) ∷ live) waiting except = λ free holds only same last.
+    page_changes pages m new live ((x, n) ∷ live) waiting except page f c.is_page s only
     (fits_more w now size count c.is_page.number (x, n) free live c.is_page.below f.blocks
     (subst (λ (r : ℕ). PageHolds now size r free ((x, n) ∷ blocks_of size r live)) at holds)
     (stays_elsewhere w now size count c.is_page.number (subst (λ (r : ℕ). (e : ℕ) → (e < r) ⊎ (r + size ≤ e) → now e ≡ w e) at only)))
-    (subst (λ (k : ℕ). k ≤ pages.small) (sym class ∙ same) c.small) (λ z. omega (arith, sym class ∙ same ∙ z, two)) last (λ ne. absurd (ne refl)) in
+    (subst (λ (k : ℕ). k ≤ pages.small) (sym class ∙ same) c.small) (λ z. omega (arith, sym class ∙ same ∙ z, two)) last listed in
     elim (eqb_tells (w (page + 1)) 0) [
       | inl z ↦
           let g = t.fresh z.1 in
@@ -156,6 +157,9 @@ taken_fits pages m new page n x c t s live waiting f =
           (sym (g.rest page (omega arith) (omega arith) (omega arith) (omega arith)))
           (g.rest (page + 7) (omega arith) (omega arith) (omega arith) (omega arith))
     ]
+
+pub taken_fits : (pages : Pages) (m new : Memory) (page n x : ℕ) → CanTakeUnlisted pages m page n → Taken (word_in m) (word_in new) page n x → IsInArenas m new → (live : List Extent) (waiting : List ℕ) → HasBlocksBut pages m live waiting page → HasBlocksBut pages new ((x, n) ∷ live) waiting page
+taken_fits pages m new page n x c t s = taken_from pages m new page n x c t s (λ ne. absurd (ne refl))
 
 pub record TakenSigns (old new : Words) (p : ℕ) : Type 0 where
   pub class : new p ≡ old p
@@ -209,12 +213,6 @@ can_put_back pages m new page n x kind c t s known room full =
       };
     }
 
--- the first page of the list of those with room
-pub record FirstWithRoom (pages : Pages) (m : Memory) (page n : ℕ) : Type 0 where
-  pub off : CanTakeOff pages m page (2 * n)
-  pub class : word_in m page ≡ n
-  pub room : HasRoom (word_in m) pages.page page
-
 kind_room : (kind class n : ℕ) → 2 ≤ n → kind ≤ 3 → list_number kind class ≡ 2 * n → (kind ≡ 1) × (class ≡ n)
 kind_room kind class n two high e = grind (arith, nat_tests)
 
@@ -222,7 +220,7 @@ first_one : (xs : List ℕ) (page : ℕ) (P : ℕ → Type 0) → page ≢ 0 →
 first_one [] page P n e all = absurd (n e)
 first_one (x ∷ xs) page P n e all = subst P (sym e) all.0
 
-pub first_with_room : (pages : Pages) (m : Memory) (page n : ℕ) → Stands pages m → 2 ≤ n → page ≢ 0 → page ≡ slice_index pages.heads.items (2 * n) → FirstWithRoom pages m page n
+pub first_with_room : (pages : Pages) (m : Memory) (page n : ℕ) → Stands pages m → 2 ≤ n → page ≢ 0 → page ≡ slice_index pages.heads.items (2 * n) → IsOpen pages m page n
 first_with_room pages m page n st two ne is =
     let f = st.fits in
     let w = word_in m in
@@ -236,6 +234,7 @@ first_with_room pages m page n st two ne is =
     record {
       off = record { stands = st; is_page = is_page; is_list = sym on.0; low = omega arith };
       class = known.1;
+      kind = known.0;
       room = right.room known.0;
     }
 

@@ -1,8 +1,8 @@
 //! The blocks of one page: the words of its header and the chain of its free blocks.
 
-ghost use Rattle.std.specs.Prelude.{◌≡◌, ◌≢◌, ℕ, ◌+◌, ◌<◌, ◌≤◌, ◌⊎◌, ◌^◌};
+ghost use Rattle.std.specs.Prelude.{◌≡◌, ◌≢◌, ℕ, ◌+◌, ◌<◌, ◌≤◌, ◌⊎◌, ◌^◌, IsTrue};
 ghost use Rattle.size_pages.specs.PageWords.{word_in, CanStore, HasAll, IsInArenas, TakesChained, TakesFresh, GivesBack, Clears, Starts};
-ghost use Rattle.size_pages.specs.Steps.{CanTake, CanPut};
+ghost use Rattle.size_pages.specs.Steps.{CanTake, CanPut, KeepsRoom};
 
 use crate::words::{load, store};
 use heap_space::Space;
@@ -76,6 +76,23 @@ pub fn kind_of(space: &Space, page: u64, n: u64, end: u64) -> u64
         return ROOM;
     }
     FULL
+}
+
+/// Whether the page of blocks of n words, which has room and ends at `end`, has some for a second
+/// block where one is taken.
+pub fn keeps_room(space: &Space, page: u64, n: u64, end: u64) -> bool
+    requires can { CanTake space.now page n }
+    requires n { n < 2 ^ 62 }
+    ensures { IsTrue result → KeepsRoom (word_in space.now) page n end }
+{
+    let first = load(space, page + 1);
+    if first == 0 {
+        return load(space, page + 3) + n + n <= end;
+    }
+    if load(space, first + 1) != 0 {
+        return true;
+    }
+    load(space, page + 3) + n <= end
 }
 
 /// Puts the live block on the page's chain.

@@ -87,7 +87,8 @@ impl Pages {
     /// A page of blocks of n words that has room gives it, where one does not wait, and else the
     /// lowest unused page is begun, and before that an arena added where none is unused. Of its page
     /// it is the first block of the chain, and where none is chained the first that was never handed
-    /// out. The only error is out of memory. It leaves everything as it was.
+    /// out. The page changes its list where it is full then. The only error is out of memory. It
+    /// leaves everything as it was.
     pub fn take(&mut self, space: &mut Space, n: u64) -> Result<u64, AllocError>
         requires stands { Stands self.old space.old }
         requires n { (2 ≤ n) × (n ≤ greatest_block self.old) }
@@ -107,6 +108,10 @@ impl Pages {
         ensures sizes { KeepsSizes self.old self.new }
     {
         self.grow_heads()?;
+        let listed = self.open_page(space, n);
+        if listed != 0 {
+            return Ok(self.take_listed(space, listed, n));
+        }
         let page = self.find_page(space, n)?;
         Ok(self.take_unlisted(space, page, n))
     }

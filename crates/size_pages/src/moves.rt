@@ -1,16 +1,16 @@
 //! Pages that leave a list, change, and go on another.
 
-ghost use Rattle.std.specs.Prelude.{◌≡◌, ℕ, ◌+◌, ◌-◌, ◌*◌, ◌/◌, ◌<◌, ◌≤◌, List, ◌∷◌, length, slice_index, IfOk, OnErr};
+ghost use Rattle.std.specs.Prelude.{◌≡◌, ◌≢◌, ℕ, ◌+◌, ◌-◌, ◌*◌, ◌/◌, ◌<◌, ◌≤◌, List, ◌∷◌, length, slice_index, IfOk, OnErr};
 ghost use Rattle.heap_space.specs.Extents.{Extent, KeepsWords};
 ghost use Rattle.size_pages.specs.PageWords.{word_in, IsInArenas};
 ghost use Rattle.size_pages.specs.PageLists.{IsPage, SameSigns, Unlinks, Links};
 ghost use Rattle.size_pages.specs.HasBlocks.{HasBlocks, HasBlocksBut, Stands, IsLive};
-ghost use Rattle.size_pages.specs.Steps.{TakesNext, IsOnlyHeads, CanTakeOff, CanPutOn, CanEnd, CanGiveFull, CanTakeUnlisted};
+ghost use Rattle.size_pages.specs.Steps.{TakesNext, IsOnlyHeads, CanTakeOff, CanPutOn, CanEnd, CanGiveFull, CanTakeUnlisted, StaysOpen};
 ghost use Rattle.size_pages.specs.Growth.{IsLowered, KeepsBlocks};
 ghost use Rattle.size_pages.specs.Calls.{page_of};
-ghost use Rattle.size_pages.specs.Moves.{FindsPage, GivesBlock};
+ghost use Rattle.size_pages.specs.Moves.{FindsPage, TakesListed, GivesBlock};
 
-use crate::blocks::{FULL, ROOM, WAITING, clear_page, kind_of, put_on_chain, take_from};
+use crate::blocks::{FULL, ROOM, WAITING, clear_page, keeps_room, kind_of, put_on_chain, take_from};
 use crate::links::{link, unlink};
 use crate::words::load;
 use crate::{ARENAS, Pages};
@@ -75,6 +75,32 @@ impl Pages {
         ensures { IsLowered self.old self.new page }
     {
         self.lowest = self.lowest.min((page - ARENAS) / self.page);
+    }
+
+    /// The first page with blocks of n words that has room, if it stays on its list where one is
+    /// taken, and else 0.
+    pub(crate) fn open_page(&self, space: &Space, n: u64) -> u64
+        requires stands { Stands self.now space.now }
+        requires n { (2 ≤ n) × (n ≤ self.now.small) }
+        requires heads { 2 * self.now.small + 2 ≤ length self.now.heads.items }
+        ensures { result ≢ 0 → StaysOpen self.now space.now result n }
+    {
+        let page = self.heads[(2 * n) as usize];
+        if page == 0 {
+            return 0;
+        }
+        if keeps_room(space, page, n, page + self.page) {
+            return page;
+        }
+        0
+    }
+
+    /// Takes a block of n words from the page, which stays on its list.
+    pub(crate) fn take_listed(&self, space: &mut Space, page: u64, n: u64) -> u64
+        requires { StaysOpen self.now space.old page n }
+        ensures { TakesListed self.now space.old space.new n result }
+    {
+        take_from(space, page, n)
     }
 
     /// A page for a block of n words, taken off its list where it was on one: the first of its
