@@ -5,7 +5,7 @@ use Rattle.std.proofs.lemmas.Bool.Decides.{eqb_tells}
 use Rattle.std.specs.List.{filter}
 use Rattle.heap_space.specs.Places.{lies_in_one, with_word}
 use Rattle.heap_space.specs.Memory.{Memory}
-use Rattle.heap_space.specs.Extents.{Extent, Each, AreApart, IsInside, IsOutside, extents_between, begins_between, lies_within, IsUntouched}
+use Rattle.heap_space.specs.Extents.{Extent, AreApart, IsInside, IsOutside, extents_between, begins_between, lies_within, IsUntouched}
 use Rattle.heap_space.proofs.Blocks.{word_at-elsewhere}
 use Rattle.heap_space.proofs.ExtentLaws.{Each-map, extents-with_word, lies_in_one-between, lies_within-part}
 use Rattle.size_pages.specs.PageWords.{Words, word_in}

@@ -1,13 +1,13 @@
 -- A block is taken from a page that stays on its list.
-use Rattle.std.proofs.Common.{◌≡◌, ◌≢◌, ℕ, ◌+◌, ◌*◌, ◌<◌, ◌≤◌, ◌⊎◌, inl, inr, List, ◌∷◌, arith, refl, sym, ◌∙◌, ap, subst}
+use Rattle.std.proofs.Common.{◌≡◌, ℕ, ◌+◌, ◌<◌, ◌≤◌, inl, inr, List, ◌∷◌, arith, sym, ◌∙◌, ap, subst}
 use Rattle.std.proofs.lemmas.Bool.Decides.{eqb_tells}
 use Rattle.heap_space.specs.Memory.{Memory}
 use Rattle.heap_space.specs.Extents.{Extent}
 use Rattle.size_pages.specs.PageWords.{word_in, IsInArenas}
 use Rattle.size_pages.specs.PageLists.{IsRight, IsListedRightly, HasRoom}
 use Rattle.size_pages.specs.HasBlocks.{HasBlocks}
-use Rattle.size_pages.specs.Steps.{CanTake, CanTakeFrom, IsOpen, StaysOpen}
-use Rattle.size_pages.specs.Calls.{TakesFrom, TakesFirst, IsInNone, page_of}
+use Rattle.size_pages.specs.Steps.{CanTakeFrom, IsOpen, StaysOpen}
+use Rattle.size_pages.specs.Calls.{TakesFrom, TakesFirst, page_of}
 use Rattle.size_pages.specs.Moves.{TakesListed}
 use Rattle.size_pages.specs.declared.Pages.{Pages}
 use Rattle.size_pages.proofs.ListMoves.{SameLinks}
@@ -50,8 +50,7 @@ listed_on pages m new page n x c t =
             | inl some ↦ inl (λ z. some (ap (λ (a : ℕ). w (a + 1)) (sym g.first) ∙ sym g.head ∙ z))
             | inr left ↦ inr (omega arith)
           ]
-    ] in
-    (
+    ] in (
       record { class = signs.class; next = word 4 (omega arith) (omega arith); before = word 5 (omega arith) (omega arith); kind = word 6 (omega arith) (omega arith) },
       subst (λ (k : ℕ). IsRight k now pages.page page) (sym kind) (record {
         known = omega arith;

@@ -1,11 +1,11 @@
 -- Pages that go on the list of the waiting ones, and leave it.
-use Rattle.std.proofs.Common.{◌≡◌, ◌≢◌, ℕ, ◌+◌, ◌-◌, ◌*◌, ◌<◌, ◌≤◌, ◌⊎◌, inl, inr, List, [], ◌∷◌, length, slice_index, arith, refl, sym, ◌∙◌, ap, subst}
+use Rattle.std.proofs.Common.{◌≡◌, ◌≢◌, ℕ, ◌+◌, ◌-◌, ◌*◌, ◌<◌, ◌≤◌, ◌⊎◌, inl, inr, List, [], ◌∷◌, length, slice_index, arith, refl, sym, ◌∙◌, subst}
 use Rattle.std.proofs.lemmas.Bool.Decides.{eqb_tells}
 use Rattle.heap_space.specs.Memory.{Memory}
 use Rattle.heap_space.specs.Extents.{Extent}
-use Rattle.size_pages.specs.PageWords.{Words, word_in, HasAll, IsInArenas}
-use Rattle.size_pages.specs.LiveBlocks.{page_at, ClassesFit}
-use Rattle.size_pages.specs.PageLists.{EachPlace, first_of_list, IsPage, list_number, list_of, IsRight, IsListedRightly, ListsFit, Unlinks, Links, SameSigns}
+use Rattle.size_pages.specs.PageWords.{word_in, HasAll, IsInArenas}
+use Rattle.size_pages.specs.LiveBlocks.{page_at}
+use Rattle.size_pages.specs.PageLists.{EachPlace, IsPage, IsRight, IsListedRightly, Unlinks, Links, SameSigns}
 use Rattle.size_pages.specs.HasBlocks.{HasBlocksBut, HasBlocks, IsRising, KeepsSizes}
 use Rattle.size_pages.specs.Steps.{CanLink, CanTakeOff, IsOnlyHeads}
 use Rattle.size_pages.specs.SweepSteps.{IsOnlyLists, CanWait, CanPutWaiting, WaitsMore}

@@ -5,7 +5,7 @@ use Rattle.std.proofs.lemmas.Bool.Decides.{eqb_tells, nat_tests}
 use Rattle.std.specs.List.{filter}
 use Rattle.heap_space.specs.Memory.{Memory}
 use Rattle.heap_space.specs.Extents.{Extent, Each, IsInside, IsApart, KeepsWords, begins_between}
-use Rattle.heap_space.proofs.ExtentLaws.{Each-map, Each-both, Each-left, Each-right, Each-into, Each-out}
+use Rattle.heap_space.proofs.ExtentLaws.{Each-map, Each-both, Each-into, Each-out}
 use Rattle.object_header.specs.Words.{has_flag, without_flag}
 use Rattle.object_header.specs.declared.flags.Flag.TheVariants.{Free, Visited}
 use Rattle.size_pages.specs.PageWords.{Words, word_in, CanStore, IsInArenas, IsStored, GivesBack}

@@ -5,9 +5,9 @@ use Rattle.heap_space.specs.Memory.{Memory}
 use Rattle.heap_space.specs.Extents.{Extent}
 use Rattle.size_pages.specs.PageWords.{Words, word_in, IsInArenas, IsBlockOf, PageHolds, TakesChained, TakesFresh}
 use Rattle.size_pages.specs.LiveBlocks.{page_at, blocks_of, BlocksFit, PageIs}
-use Rattle.size_pages.specs.PageLists.{EachPlace, first_of_list, IsPage, list_number, list_of, IsListedRightly, SameSigns, HasRoom}
+use Rattle.size_pages.specs.PageLists.{EachPlace, first_of_list, IsPage, list_number, list_of, IsListedRightly, SameSigns}
 use Rattle.size_pages.specs.HasBlocks.{HasBlocksBut, HasBlocks, Stands}
-use Rattle.size_pages.specs.Steps.{CanTake, CanTakeFrom, CanTakeUnlisted, IsOpen, CanTakeOff, CanPutOn, IsOnlyHeads}
+use Rattle.size_pages.specs.Steps.{CanTake, CanTakeFrom, CanTakeUnlisted, IsOpen, CanPutOn, IsOnlyHeads}
 use Rattle.size_pages.specs.Calls.{page_of}
 use Rattle.size_pages.specs.declared.Pages.{Pages}
 use Rattle.size_pages.proofs.ListMoves.{SameLinks}

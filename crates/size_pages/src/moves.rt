@@ -10,7 +10,9 @@ ghost use Rattle.size_pages.specs.Growth.{IsLowered, KeepsBlocks};
 ghost use Rattle.size_pages.specs.Calls.{page_of};
 ghost use Rattle.size_pages.specs.Moves.{FindsPage, TakesListed, GivesBlock};
 
-use crate::blocks::{FULL, ROOM, WAITING, clear_page, keeps_room, kind_of, put_on_chain, take_from};
+use crate::blocks::{
+    FULL, ROOM, WAITING, clear_page, keeps_room, kind_of, put_on_chain, take_from,
+};
 use crate::links::{link, unlink};
 use crate::words::load;
 use crate::{ARENAS, Pages};

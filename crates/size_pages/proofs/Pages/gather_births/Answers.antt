@@ -1,4 +1,4 @@
-use Rattle.std.proofs.Common.{arith, ◌≡◌, ◌≢◌, ◌∙◌, ◌+◌, ◌*◌, ◌≤◌, sym, inl, inr, ap, ℕ, refl}
+use Rattle.std.proofs.Common.{arith, ◌≢◌, ◌∙◌, ◌+◌, ◌*◌, ◌≤◌, sym, inl, inr, ap, ℕ}
 use Rattle.size_pages.specs.PageWords.{word_in}
 use Rattle.object_header.specs.Words.{has_flag}
 use Rattle.object_header.specs.declared.flags.Flag.TheVariants.{Free}

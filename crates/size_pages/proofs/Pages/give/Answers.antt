@@ -1,4 +1,4 @@
-use Rattle.std.proofs.Common.{arith, ◌+◌}
+use Rattle.std.proofs.Common.{arith}
 use Rattle.size_pages.proofs.EndLaws.{give_facts, can_end, can_give_full}
 use Rattle.size_pages.proofs.AroundLaws.{gives_plain}
 use Rattle.size_pages.proofs.Pages.give.Goals as goal

@@ -1,4 +1,3 @@
-use Rattle.std.proofs.Common.{◌*◌}
 use Rattle.size_pages.proofs.EndLaws.{full_put, full_put_on}
 use Rattle.size_pages.proofs.AroundLaws.{gives_full}
 use Rattle.size_pages.proofs.Pages.give_back_full.Goals as goal

@@ -1,4 +1,4 @@
-use Rattle.std.proofs.Common.{arith, ◌≡◌, ◌∙◌, ◌+◌, ◌*◌, ◌≤◌, ap, ℕ, refl}
+use Rattle.std.proofs.Common.{arith, ◌+◌, ◌*◌, ◌≤◌}
 use Rattle.size_pages.specs.PageWords.{word_in}
 use Rattle.size_pages.proofs.GatherLaws.{swept_page, slot_in, slots_end}
 use Rattle.size_pages.proofs.SweepLaws.{swept_none, can_sweep_slot, slot_swept, swept_all}
