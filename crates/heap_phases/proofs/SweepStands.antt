@@ -346,7 +346,7 @@ module _ (heap : HeapParts) (store : Store) (s : PartsStandFor heap store) (swee
   kind = unit_kind heap.old_blocks heap.memory _ o.unit o.rest words-before.blocks
 
   small-page : small_words settings ≤ page_words
-  small-page = omega (arith, s.made.small, s.made.page, words-before.blocks.greatest, words-before.blocks.in_pages.small_high)
+  small-page = omega (arith, s.made.small, s.made.page, words-before.blocks.greatest, words-before.blocks.in_pages.setup.small_high)
 
   -- where the unit is a page
   in-page : PageUnit heap.old_blocks o.unit → (p : ℕ) → IsTrue (is_in p s.husks) → in_page heap.old_blocks.pages.page o.unit (husk-block p) ≡ (unit_at page_words p == o.unit)

@@ -36,7 +36,7 @@ pages-below p m small waiting h =
 
 pub arenas-below : (p : Pages) (m : Memory) (small : List Extent) (waiting : List ℕ) → pages.HasBlocks p m small waiting
     → m.next_arena ≤ 1099511627776
-arenas-below p m small waiting h = let e = h.end in let b = h.below in omega arith
+arenas-below p m small waiting h = let e = h.arenas.end in let b = h.arenas.below in omega arith
 
 -- changes among the large blocks
 pub pages-kept : (p : Pages) (m new : Memory) (small : List Extent) (waiting : List ℕ) → pages.HasBlocks p m small waiting
@@ -67,6 +67,6 @@ pub waiting-below : (p : Pages) (m : Memory) (small : List Extent) (waiting : Li
     → EachPlace (λ q. q < 1099511627776) waiting
 waiting-below p m small waiting h =
     let wide = h.blocks.size_low in
-    let below = h.below in
+    let below = h.arenas.below in
     subst (λ (xs : List ℕ). EachPlace (λ q. q < 1099511627776) xs) h.lists.waits
     (waiting-each p.page p.count 1099511627776 (h.lists.lists 1) (omega arith) (omega arith) (h.lists.pages 1))

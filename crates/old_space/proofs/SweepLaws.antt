@@ -89,7 +89,7 @@ ends-each size count top (x ∷ xs) high all =
 pub waiting-ends : (p : Pages) (m : Memory) (small : List Extent) (waiting : List ℕ) → pages.HasBlocks p m small waiting
     → EachPlace (λ q. q + p.page ≤ 1099511627776) waiting
 waiting-ends p m small waiting h =
-    let below = h.below in
+    let below = h.arenas.below in
     subst (λ (xs : List ℕ). EachPlace (λ q. q + p.page ≤ 1099511627776) xs) h.lists.waits
     (ends-each p.page p.count 1099511627776 (h.lists.lists 1) (omega arith) (h.lists.pages 1))
 

@@ -41,7 +41,7 @@ pub waits_start : (old new : Pages) (m : Memory) (order : List ℕ) → IsOrder 
 waits_start old new m order h only = record {
   waiting = [];
   all = subst (IsOrder old m) (sym (append-nil order)) h;
-  fits = λ live f. order_fits old new m live [] 0 0 only f;
+  fits = λ live f. order_fits old new m live [] 0 only f;
   later = each_from (λ q. word_in m (q + 6) ≡ word_in m (q + 6)) order (λ q i. refl);
   classes = λ j low. refl;
   kept = λ live f. keeps_same m m live (λ e. refl);
@@ -77,7 +77,7 @@ module _ (old new less : Pages) (m after : Memory) (order : List ℕ) (page : �
   count_same = only.count ∙ h.count
 
   fits_less : (live : List Extent) → HasBlocks old m live [] → HasBlocks less after live h.waiting
-  fits_less live f = order_fits new less after live h.waiting 0 0 only (h.fits live f)
+  fits_less live f = order_fits new less after live h.waiting 0 only (h.fits live f)
 
   pub can_wait_next : CanWait less after page
   can_wait_next =
@@ -126,7 +126,7 @@ pub waits_end : (old new less : Pages) (m after : Memory) (order : List ℕ) →
 waits_end old new less m after order none only h = record {
   waiting = h.waiting;
   all = subst (λ (xs : List ℕ). IsOrder old m (xs ++ h.waiting)) (no_places order none) h.all;
-  fits = λ live f. order_fits new less after live h.waiting 0 0 only (h.fits live f);
+  fits = λ live f. order_fits new less after live h.waiting 0 only (h.fits live f);
   later = tt;
   classes = h.classes;
   kept = h.kept;
@@ -157,7 +157,7 @@ HasBlocks_used pages m live waiting k f below used no3 none =
     let known : w (p + 6) ≤ 3 = right.known in
     let count : w (p + 2) ≡ 0 = h.count in
     let class : w p ≤ pages.small = f.classes.small k below in
-    let small : pages.small + 8 ≤ size = f.small_high in
+    let small : pages.small + 8 ≤ size = f.setup.small_high in
     elim (eqb_tells (w (p + 6)) 1) [
       | inl a ↦ (let busy : 0 < w (p + 2) = right.busy a.1 in omega arith)
       | inr b ↦ (let two : w (p + 6) ≡ 2 = (let d : w (p + 6) ≢ 1 = b.1 in omega arith) in let full = right.full two in let fresh : w (p + 3) ≡ p + 8 = none_live w size p is.free h full.0 in omega (arith, full.1))

@@ -1,20 +1,23 @@
 -- Which page a block comes from, and that it is none of the waiting ones.
-use Rattle.std.proofs.Common.{◌≡◌, ◌≢◌, ℕ, ◌+◌, ◌*◌, ◌<◌, ◌≤◌, ◌⊎◌, inl, inr, List, slice_index, arith, sym, ◌∙◌, ap, subst}
+use Rattle.std.proofs.Common.{◌≡◌, ◌≢◌, ℕ, ◌+◌, ◌*◌, ◌<◌, ◌≤◌, ◌⊎◌, inl, inr, List, length, slice_index, arith, sym, ◌∙◌, ap, subst}
 use Rattle.std.proofs.lemmas.Bool.Decides.{eqb_tells, nat_tests}
 use Rattle.heap_space.specs.Memory.{Memory}
 use Rattle.heap_space.specs.Extents.{Extent}
-use Rattle.size_pages.specs.PageWords.{Words, word_in}
+use Rattle.size_pages.specs.PageWords.{Words, word_in, IsInArenas}
 use Rattle.size_pages.specs.LiveBlocks.{page_at}
-use Rattle.size_pages.specs.PageLists.{EachPlace, IsPage, list_number, list_of, IsListedRightly, ListsFit, HasRoom, SameSigns}
-use Rattle.size_pages.specs.HasBlocks.{HasBlocks, Stands, KeepsSizes}
+use Rattle.size_pages.specs.PageLists.{EachPlace, IsPage, list_number, list_of, IsListedRightly, ListsFit, HasRoom, Unlinks, SameSigns}
+use Rattle.size_pages.specs.HasBlocks.{HasBlocks, HasBlocksBut, Stands, KeepsSizes}
 use Rattle.size_pages.specs.Growth.{BeginsPage}
-use Rattle.size_pages.specs.Calls.{page_of, IsInNone, TakesFrom, TakesFirst, AddsArena}
-use Rattle.size_pages.specs.Steps.{TakesNext}
+use Rattle.size_pages.specs.Calls.{IsInNone, TakesFrom, TakesFirst, AddsArena}
+use Rattle.size_pages.specs.Moves.{FindsPage}
+use Rattle.size_pages.specs.Steps.{IsOnlyHeads, IsOpen, TakesNext}
 use Rattle.size_pages.specs.declared.Pages.{Pages}
 use Rattle.size_pages.proofs.FitLaws.{pages_apart}
 use Rattle.size_pages.proofs.ListLaws.{places_map, places_both}
-use Rattle.size_pages.proofs.TakeLaws.{FirstWithRoom}
-use Rattle.size_pages.proofs.GrowthLaws.{none_has_room}
+use Rattle.size_pages.proofs.TakeLaws.{first_with_room, can_take_first}
+use Rattle.size_pages.proofs.KeepLaws.{off_keeps}
+use Rattle.size_pages.proofs.AroundLaws.{sizes_heads}
+use Rattle.size_pages.proofs.GrowthLaws.{none_has_room, arenas_outside}
 use Rattle.size_pages.proofs.BeginLaws.{some_words}
 
 -- a waiting page: it has a class, and its word 6 says so
@@ -54,23 +57,11 @@ in_none w size count p a waiting all n is free low high =
 list_two : (kind class n : ℕ) → 2 ≤ n → list_number kind class ≡ 2 * n → kind ≢ 3
 list_two kind class n two e = grind (arith, nat_tests)
 
-pub first_not_waiting : (pages : Pages) (m : Memory) (page n : ℕ) → 2 ≤ n → FirstWithRoom pages m page n → word_in m (page + 6) ≢ 3
+pub first_not_waiting : (pages : Pages) (m : Memory) (page n : ℕ) → 2 ≤ n → IsOpen pages m page n → word_in m (page + 6) ≢ 3
 first_not_waiting pages m page n two g = list_two (word_in m (page + 6)) (word_in m page) n two (sym g.off.is_list)
 
--- the numbers of pages that were given their heads
-pub from_grown : (pages p1 : Pages) (m : Memory) (n a page : ℕ) → KeepsSizes pages p1 → p1.count ≡ pages.count → page ≡ page_of p1.page a → TakesFrom (word_in m) p1.page p1.count n page → TakesFrom (word_in m) pages.page pages.count n (page_of pages.page a)
-from_grown pages p1 m n a page s count is h =
-    subst (λ (k : ℕ). TakesFrom (word_in m) k pages.count n (page_of k a)) s.page (subst (λ (k : ℕ). TakesFrom (word_in m) p1.page k n (page_of p1.page a)) count (subst (λ (p : ℕ). TakesFrom (word_in m) p1.page p1.count n p) is h))
-
-pub arena_grown : (pages p1 : Pages) (m new : Memory) (n : ℕ) → KeepsSizes pages p1 → p1.count ≡ pages.count → AddsArena (word_in m) p1.page p1.count n m new → AddsArena (word_in m) pages.page pages.count n m new
-arena_grown pages p1 m new n s count h =
-    subst (λ (k : ℕ). AddsArena (word_in m) k pages.count n m new) s.page (subst (λ (k : ℕ). AddsArena (word_in m) p1.page k n m new) count h)
-
-pub none_grown : (pages p1 : Pages) (a : ℕ) (waiting : List ℕ) → KeepsSizes pages p1 → IsInNone p1.page waiting a → IsInNone pages.page waiting a
-none_grown pages p1 a waiting s h = subst (λ (k : ℕ). IsInNone k waiting a) s.page h
-
 -- the block comes from a page with room
-pub from_first : (pages : Pages) (m : Memory) (page n : ℕ) → 2 ≤ n → FirstWithRoom pages m page n → TakesFrom (word_in m) pages.page pages.count n page
+pub from_first : (pages : Pages) (m : Memory) (page n : ℕ) → 2 ≤ n → IsOpen pages m page n → TakesFrom (word_in m) pages.page pages.count n page
 from_first pages m page n two g = record {
   class = inl g.class;
   full = λ z. absurd (let e : n ≡ 0 = sym g.class ∙ z in omega arith);
@@ -78,7 +69,7 @@ from_first pages m page n two g = record {
 }
 
 -- and is the first of its chain, or the first that was never handed out
-pub next_first : (pages : Pages) (m off : Memory) (page n a : ℕ) → 2 ≤ n → FirstWithRoom pages m page n → SameSigns (word_in m) (word_in off) page → TakesNext (word_in off) page a → TakesFirst (word_in m) page a
+pub next_first : (pages : Pages) (m off : Memory) (page n a : ℕ) → 2 ≤ n → IsOpen pages m page n → SameSigns (word_in m) (word_in off) page → TakesNext (word_in off) page a → TakesFirst (word_in m) page a
 next_first pages m off page n a two g same t =
     let w = word_in m in record {
       chained = λ used some. t.chained (λ z. some (sym same.chain ∙ z)) ∙ same.chain;
@@ -93,11 +84,7 @@ next_begun pages after m new page n a b t = record {
   begun = λ z. t.fresh b.empty.chain ∙ b.empty.fresh;
 }
 
-pub next_grown : (pages p1 : Pages) (m : Memory) (a page : ℕ) → KeepsSizes pages p1 → page ≡ page_of p1.page a → TakesFirst (word_in m) page a → TakesFirst (word_in m) (page_of pages.page a) a
-next_grown pages p1 m a page s is h =
-    subst (λ (k : ℕ). TakesFirst (word_in m) (page_of k a) a) s.page (subst (λ (p : ℕ). TakesFirst (word_in m) p a) is h)
-
-pub arena_first : (pages : Pages) (m new : Memory) (page n : ℕ) → 2 ≤ n → Stands pages m → FirstWithRoom pages m page n → new.next_arena ≡ m.next_arena → AddsArena (word_in m) pages.page pages.count n m new
+pub arena_first : (pages : Pages) (m new : Memory) (page n : ℕ) → 2 ≤ n → Stands pages m → IsOpen pages m page n → new.next_arena ≡ m.next_arena → AddsArena (word_in m) pages.page pages.count n m new
 arena_first pages m new page n two st g same =
     let some : 0 < m.arena_words = some_words pages m st in
     let k = g.off.is_page.number in
@@ -119,22 +106,75 @@ from_begun pages after m new page n st two none b = record {
   lowest = λ z. b.lower;
 }
 
-pub arena_begun : (pages after : Pages) (m new last : Memory) (page n : ℕ) → Stands pages m → 2 ≤ n → slice_index pages.heads.items (2 * n) ≡ 0 → BeginsPage pages after m new page n → last.next_arena ≡ new.next_arena → AddsArena (word_in m) pages.page pages.count n m last
-arena_begun pages after m new last page n st two none b same = record {
-  one = elim b.one [ inl e ↦ inl (same ∙ e) | inr e ↦ inr (same ∙ e) ];
-  exactly = (λ e. (none_has_room pages m n st.live st.waiting st.fits two none, b.exactly.0 (sym same ∙ e)), λ h. same ∙ b.exactly.1 h.1);
+-- a page with room is found
+pub finds_first : (pages p2 : Pages) (m m2 : Memory) (page n : ℕ) → Stands pages m → 2 ≤ n → n ≤ pages.small → page ≢ 0 → page ≡ slice_index pages.heads.items (2 * n) → ((live : List Extent) (waiting : List ℕ) → HasBlocks pages m live waiting → HasBlocksBut p2 m2 live waiting page) → Unlinks (word_in m) (word_in m2) pages.heads.items p2.heads.items page (2 * n)
+    → SameSigns (word_in m) (word_in m2) page → IsOnlyHeads pages p2 → IsInArenas m m2 → FindsPage pages p2 m m2 page n
+finds_first pages p2 m m2 page n st two small ne is off u signs only s =
+    let g = first_with_room pages m page n st two ne is in
+    record {
+      sizes = sizes_heads pages p2 only;
+      can = can_take_first pages p2 m m2 page n st two small ne is off signs only;
+      found = off;
+      kept = off_keeps pages p2.heads.items m m2 page (2 * n) g.off u;
+      apart = λ live waiting f a low high. in_none (word_in m) pages.page pages.count page a waiting (waiting_pages (word_in m) pages.page pages.count pages.heads.items waiting f.lists) pages.count g.off.is_page (inl (first_not_waiting pages m page n two g)) low high;
+      from = from_first pages m page n two g;
+      next = λ a t. next_first pages m m2 page n a two g signs t;
+      arena = arena_first pages m m2 page n two st g s.next_arena;
+      size = s.arena_words;
+      large = s.next_large;
+      outside = arenas_outside m m2 s;
+    }
+
+-- a page is begun, where none has room
+pub finds_begun : (pages after : Pages) (m new : Memory) (page n : ℕ) → Stands pages m → 2 ≤ n → slice_index pages.heads.items (2 * n) ≡ 0 → BeginsPage pages after m new page n → FindsPage pages after m new page n
+finds_begun pages after m new page n st two none b =
+    let full = none_has_room pages m n st.live st.waiting st.fits two none in
+    record {
+      sizes = b.sizes;
+      can = b.can;
+      found = b.started;
+      kept = b.kept;
+      apart = λ live waiting f a low high. in_none (word_in m) pages.page pages.count page a waiting (waiting_pages (word_in m) pages.page pages.count pages.heads.items waiting f.lists) after.count (subst (λ (k : ℕ). IsPage k after.count page) b.sizes.page b.can.is_page) (inr b.unused) low high;
+      from = from_begun pages after m new page n st two none b;
+      next = λ a t. next_begun pages after m new page n a b t;
+      arena = record { one = b.one; exactly = (λ e. (full, b.exactly.0 e), λ h. b.exactly.1 h.1) };
+      size = b.size;
+      large = b.large;
+      outside = b.outside;
+    }
+
+-- pages that got room for their heads before
+pub finds_grown : (pages grown new : Pages) (m after : Memory) (page n : ℕ) → grown ≡ record pages { heads = grown.heads } → ((live : List Extent) (waiting : List ℕ) → HasBlocks pages m live waiting → HasBlocks grown m live waiting) → FindsPage grown new m after page n → FindsPage pages new m after page n
+finds_grown pages grown new m after page n e keeps g =
+    let P : Pages → Type 0 = λ p. FindsPage p new m after page n in
+    let h : FindsPage (record pages { heads = grown.heads }) new m after page n = subst P e g in
+    record {
+      sizes = record { page = h.sizes.page; pages_per_arena = h.sizes.pages_per_arena; small = h.sizes.small };
+      can = h.can;
+      found = λ live waiting f. g.found live waiting (keeps live waiting f);
+      kept = λ live waiting f. g.kept live waiting (keeps live waiting f);
+      apart = λ live waiting f. h.apart live waiting (subst (λ (p : Pages). HasBlocks p m live waiting) e (keeps live waiting f));
+      from = h.from;
+      next = h.next;
+      arena = h.arena;
+      size = h.size;
+      large = h.large;
+      outside = h.outside;
+    }
+
+-- the arena that was added, where a block is taken then
+pub arena_later : (w : Words) (size count n : ℕ) (m after last : Memory) → AddsArena w size count n m after → last.next_arena ≡ after.next_arena → AddsArena w size count n m last
+arena_later w size count n m after last h same = record {
+  one = elim h.one [ inl e ↦ inl (same ∙ e) | inr e ↦ inr (same ∙ e) ];
+  exactly = (λ e. h.exactly.0 (sym same ∙ e), λ c. same ∙ h.exactly.1 c);
 }
 
-pub first_elsewhere : (pages p2 : Pages) (m : Memory) (page n a : ℕ) → 2 ≤ n → FirstWithRoom pages m page n → p2.page ≡ pages.page → (page + 8 ≤ a) × (a + n ≤ page + p2.page) → (live : List Extent) (waiting : List ℕ) → HasBlocks pages m live waiting → IsInNone pages.page waiting a
-first_elsewhere pages p2 m page n a two g size place live waiting f =
-    let low : page + 8 ≤ a = place.0 in
-    let high : a + n ≤ page + p2.page = place.1 in
-    in_none (word_in m) pages.page pages.count page a waiting (waiting_pages (word_in m) pages.page pages.count pages.heads.items waiting f.lists) pages.count g.off.is_page (inl (first_not_waiting pages m page n two g)) (omega arith) (omega arith)
+pub heads_grown : (pages grown : Pages) → grown ≡ record pages { heads = grown.heads } → 2 * pages.small + 2 ≤ length grown.heads.items → 2 * grown.small + 2 ≤ length grown.heads.items
+heads_grown pages grown e long = subst (λ (k : ℕ). 2 * k + 2 ≤ length grown.heads.items) (sym (ap (λ (p : Pages). p.small) e)) long
 
-pub begun_elsewhere : (pages after : Pages) (m new : Memory) (page n a : ℕ) → BeginsPage pages after m new page n → (page + 8 ≤ a) × (a + n ≤ page + after.page) → (live : List Extent) (waiting : List ℕ) → HasBlocks pages m live waiting → IsInNone pages.page waiting a
-begun_elsewhere pages after m new page n a b place live waiting f =
-    let low : page + 8 ≤ a = place.0 in
-    let high : a + n ≤ page + after.page = place.1 in
-    let size : after.page ≡ pages.page = b.sizes.page in
-    let two : 2 ≤ n = b.can.low in
-    in_none (word_in m) pages.page pages.count page a waiting (waiting_pages (word_in m) pages.page pages.count pages.heads.items waiting f.lists) after.count (subst (λ (k : ℕ). IsPage k after.count page) size b.can.is_page) (inr b.unused) (omega arith) (omega arith)
+pub sizes_grown : (pages grown : Pages) → grown ≡ record pages { heads = grown.heads } → KeepsSizes pages grown
+sizes_grown pages grown e = record {
+  page = ap (λ (p : Pages). p.page) e;
+  pages_per_arena = ap (λ (p : Pages). p.pages_per_arena) e;
+  small = ap (λ (p : Pages). p.small) e;
+}

@@ -5,105 +5,73 @@ use Rattle.heap_space.specs.Memory.{Memory}
 use Rattle.heap_space.specs.Extents.{Extent}
 use Rattle.heap_space.proofs.ExtentLaws.{Each-right}
 use Rattle.size_pages.specs.PageWords.{word_in, CanStore, IsInArenas, IsBlockOf, GivesBack, Clears}
-use Rattle.size_pages.specs.LiveBlocks.{page_at, blocks_of, BlocksFit, ClassesFit}
+use Rattle.size_pages.specs.LiveBlocks.{page_at, blocks_of}
 use Rattle.size_pages.specs.PageLists.{IsPage, list_number, IsRight, IsListedRightly, ListsFit, SameSigns}
-use Rattle.size_pages.specs.HasBlocks.{IsPlaced, HasBlocksBut, HasBlocks, IsLive, KeepsSizes}
+use Rattle.size_pages.specs.HasBlocks.{HasBlocksBut, HasBlocks, IsLive}
 use Rattle.size_pages.specs.Steps.{CanPut, CanTakeOff, CanPutOn, CanEnd, CanGiveFull, IsOnlyHeads, BlockIn}
 use Rattle.size_pages.specs.Growth.{IsLowered, IsOnlyOrder}
 use Rattle.size_pages.specs.declared.Pages.{Pages}
-use Rattle.size_pages.proofs.GiveLaws.{block_in, used_page, can_put, given_fits, right_given, cleared_fits}
+use Rattle.size_pages.proofs.GiveLaws.{block_in, used_page, can_put, given_fits, right_given, last_goes}
 
 -- the heads of a counted page's lists are there
-pub heads_long : {pages : Pages} {m : Memory} {live : List Extent} {waiting : List ℕ} {except spare : ℕ} → HasBlocksBut pages m live waiting except spare → (page list : ℕ) → IsPage pages.page pages.count page → list ≤ 2 * pages.small + 1 → list < length pages.heads.items
-heads_long {pages} {m} {live} {waiting} {except} {spare} f page list is small =
+pub heads_long : {pages : Pages} {m : Memory} {live : List Extent} {waiting : List ℕ} {except : ℕ} → HasBlocksBut pages m live waiting except → (page list : ℕ) → IsPage pages.page pages.count page → list ≤ 2 * pages.small + 1 → list < length pages.heads.items
+heads_long {pages} {m} {live} {waiting} {except} f page list is small =
     let below : is.number < pages.count = is.below in
     let long : 2 * pages.small + 2 ≤ length pages.heads.items = f.heads (omega arith) in omega arith
 
-pub no_less : (pages after : Pages) → after.order ≡ pages.order → vec_capacity pages.order ≤ vec_capacity after.order
-no_less pages after e = let same : vec_capacity after.order ≡ vec_capacity pages.order = ap (λ v. vec_capacity v) e in omega arith
+-- the search for unused pages may begin at any place below which none is
+pub searched_fits : (pages : Pages) (low : ℕ) (m : Memory) (live : List Extent) (waiting : List ℕ) (except : ℕ) → low ≤ pages.count → ((k : ℕ) → k < low → word_in m (page_at pages.page k) ≢ 0) → HasBlocksBut pages m live waiting except → HasBlocksBut (record pages { lowest = low }) m live waiting except
+searched_fits pages low m live waiting except within used h = record {
+  setup = h.setup;
+  arenas = h.arenas;
+  blocks = h.blocks;
+  classes = record { small = h.classes.small; within = within; used = used; last = h.classes.last };
+  lists = h.lists;
+  heads = h.heads;
+  waits = h.waits;
+  rising = h.rising;
+  room = h.room;
+}
 
--- only where the search for unused pages begins changes, and the room for an order does not shrink
-pub record IsRecounted (old new : Pages) : Type 0 where
-  pub sizes : KeepsSizes old new
-  pub count : new.count ≡ old.count
-  pub waiting : new.waiting ≡ old.waiting
-  pub heads : new.heads.items ≡ old.heads.items
-  pub room : vec_capacity old.order ≤ vec_capacity new.order
+pub only_order : (old new : Pages) → IsOnlyOrder old new → new ≡ record old { heads = new.heads; order = new.order }
+only_order old new h = λ i. record { page = h.sizes.page i; pages_per_arena = h.sizes.pages_per_arena i; small = h.sizes.small i; count = h.count i; lowest = h.lowest i; waiting = h.waiting i; heads = new.heads; order = new.order }
 
-pub recounted_fits : (pages after : Pages) (m : Memory) (live : List Extent) (waiting : List ℕ) (except spare : ℕ) → IsRecounted pages after → ClassesFit (word_in m) pages.page pages.count pages.small after.lowest → HasBlocksBut pages m live waiting except spare → HasBlocksBut after m live waiting except spare
-recounted_fits pages after m live waiting except spare l classes h =
-    let is_page : after.page ≡ pages.page = l.sizes.page in
-    let small : after.small ≡ pages.small = l.sizes.small in
-    let all_at : page_at after.page (after.count + spare) ≡ page_at pages.page (pages.count + spare) = ap (λ (k : ℕ). page_at k (after.count + spare)) is_page ∙ ap (λ (k : ℕ). page_at pages.page (k + spare)) l.count in
-    record {
-      size_high = subst (λ (k : ℕ). k ≤ 8192) (sym is_page) h.size_high;
-      arena_low = subst (λ (k : ℕ). 1 ≤ k) (sym l.sizes.pages_per_arena) h.arena_low;
-      arena_high = subst (λ (k : ℕ). k ≤ 1024) (sym l.sizes.pages_per_arena) h.arena_high;
-      small_low = subst (λ (k : ℕ). 2 ≤ k) (sym small) h.small_low;
-      small_high = let f : pages.small + 8 ≤ pages.page = h.small_high in omega arith;
-      arena_size = h.arena_size ∙ sym (ap (λ (k : ℕ). k * after.pages_per_arena) is_page ∙ ap (λ (k : ℕ). pages.page * k) l.sizes.pages_per_arena);
-      end = h.end ∙ sym all_at;
-      below = subst (λ (k : ℕ). k ≤ 1099511627776) (sym all_at) h.below;
-      placed = λ k low. subst (λ (n : ℕ). IsPlaced m n k) (sym is_page) (h.placed k (let e : after.count ≡ pages.count = l.count in omega arith));
-      blocks = subst (λ (k : ℕ). BlocksFit (word_in m) k after.count live) (sym is_page) (subst (λ (k : ℕ). BlocksFit (word_in m) pages.page k live) (sym l.count) h.blocks);
-      classes = subst (λ (k : ℕ). ClassesFit (word_in m) k after.count after.small after.lowest) (sym is_page) (subst (λ (k : ℕ). ClassesFit (word_in m) pages.page k after.small after.lowest) (sym l.count) (subst (λ (k : ℕ). ClassesFit (word_in m) pages.page pages.count k after.lowest) (sym small) classes));
-      lists = subst (λ (k : ℕ). ListsFit (word_in m) k after.count after.heads.items waiting except) (sym is_page) (subst (λ (k : ℕ). ListsFit (word_in m) pages.page k after.heads.items waiting except) (sym l.count) (subst (λ (v : List ℕ). ListsFit (word_in m) pages.page pages.count v waiting except) (sym l.heads) h.lists));
-      heads = λ some. let e : after.count ≡ pages.count = l.count in let long : 2 * pages.small + 2 ≤ length pages.heads.items = h.heads (omega arith) in let same : length after.heads.items ≡ length pages.heads.items = ap (λ (v : List ℕ). length v) l.heads in omega arith;
-      waits = l.waiting ∙ h.waits;
+pub order_fits : (pages after : Pages) (m : Memory) (live : List Extent) (waiting : List ℕ) (except : ℕ) → IsOnlyOrder pages after → HasBlocksBut pages m live waiting except → HasBlocksBut after m live waiting except
+order_fits pages after m live waiting except l h =
+    let room : vec_capacity pages.order ≤ vec_capacity after.order = l.room in
+    let enough : pages.count ≤ vec_capacity pages.order = h.room in
+    subst (λ (q : Pages). HasBlocksBut q m live waiting except) (sym (only_order pages after l)) (record {
+      setup = h.setup;
+      arenas = h.arenas;
+      blocks = h.blocks;
+      classes = h.classes;
+      lists = subst (λ (v : List ℕ). ListsFit (word_in m) pages.page pages.count v waiting except) (sym l.heads) h.lists;
+      heads = λ some. subst (λ (v : List ℕ). 2 * pages.small + 2 ≤ length v) (sym l.heads) (h.heads some);
+      waits = h.waits;
       rising = h.rising;
-      room = let more : vec_capacity pages.order ≤ vec_capacity after.order = l.room in let enough : pages.count + spare ≤ vec_capacity pages.order = h.room in let e : after.count ≡ pages.count = l.count in omega arith;
-    }
-
-pub order_fits : (pages after : Pages) (m : Memory) (live : List Extent) (waiting : List ℕ) (except spare : ℕ) → IsOnlyOrder pages after → HasBlocksBut pages m live waiting except spare → HasBlocksBut after m live waiting except spare
-order_fits pages after m live waiting except spare l h =
-    recounted_fits pages after m live waiting except spare (record { sizes = l.sizes; count = l.count; waiting = l.waiting; heads = l.heads; room = l.room })
-    (subst (λ (k : ℕ). ClassesFit (word_in m) pages.page pages.count pages.small k) (sym l.lowest) h.classes) h
-
-pub lowered_fits : (pages after : Pages) (page : ℕ) (m : Memory) (live : List Extent) (waiting : List ℕ) (except spare : ℕ) → IsLowered pages after page → HasBlocksBut pages m live waiting except spare → HasBlocksBut after m live waiting except spare
-lowered_fits pages after page m live waiting except spare l h =
-    let classes : ClassesFit (word_in m) pages.page pages.count pages.small after.lowest = record {
-      small = h.classes.small;
-      within = let a : pages.lowest ≤ pages.count = h.classes.within in let b : after.lowest ≤ pages.lowest = l.below in omega arith;
-      used = λ k below. h.classes.used k (let b : after.lowest ≤ pages.lowest = l.below in omega arith);
-      last = h.classes.last;
-    } in
-    recounted_fits pages after m live waiting except spare (record { sizes = l.sizes; count = l.count; waiting = l.waiting; heads = l.heads; room = no_less pages after l.order }) classes h
-
-pub same_block : (pages p2 : Pages) (page a n : ℕ) → IsOnlyHeads pages p2 → BlockIn pages.page pages.count page a n → BlockIn p2.page p2.count page a n
-same_block pages p2 page a n o b = subst (λ (s : ℕ). BlockIn s p2.count page a n) (sym o.page) (subst (λ (k : ℕ). BlockIn pages.page k page a n) (sym o.count) b)
-
--- a step from listed pages to pages without one
-abbrev pub IsOff : Pages → Memory → Pages → Memory → ℕ → Type 0
-IsOff pages m p2 m2 page = (live : List Extent) (waiting : List ℕ) → HasBlocks pages m live waiting → HasBlocksBut p2 m2 live waiting page 0
+      room = omega arith;
+    })
 
 pub block_after : (pages after : Pages) (page a n : ℕ) → after.page ≡ pages.page → after.count ≡ pages.count → BlockIn pages.page pages.count page a n → BlockIn after.page after.count page a n
 block_after pages after page a n size count b = subst (λ (s : ℕ). BlockIn s after.count page a n) (sym size) (subst (λ (k : ℕ). BlockIn pages.page k page a n) (sym count) b)
 
-pub end_fits : (pages p2 p3 : Pages) (m m2 m3 : Memory) (page a n list : ℕ) → CanEnd pages m page a n list → IsOff pages m p2 m2 page → SameSigns (word_in m) (word_in m2) page → IsOnlyHeads pages p2 → IsLowered p2 p3 page → Clears (word_in m2) (word_in m3) page → IsInArenas m2 m3 → (live : List Extent) (waiting : List ℕ) → HasBlocks pages m ((a, n) ∷ live) waiting → HasBlocksBut p3 m3 live waiting page 0
-end_fits pages p2 p3 m m2 m3 page a n list c off signs only low clears s live waiting f =
-    cleared_fits p3 m2 m3 live waiting page a n (lowered_fits p2 p3 page m2 ((a, n) ∷ live) waiting page 0 low (off ((a, n) ∷ live) waiting f))
-    (subst (λ (k : ℕ). page_at k p3.lowest ≤ page) (sym low.sizes.page) low.lower)
-    (block_after p2 p3 page a n low.sizes.page low.count (same_block pages p2 page a n only c.block)) (signs.count ∙ c.one) clears s
+pub same_block : (pages p2 : Pages) (page a n : ℕ) → IsOnlyHeads pages p2 → BlockIn pages.page pages.count page a n → BlockIn p2.page p2.count page a n
+same_block pages p2 page a n o b = block_after pages p2 page a n o.page o.count b
 
-pub end_put_on : (pages p2 p3 : Pages) (m m2 m3 : Memory) (page a n list : ℕ) → CanEnd pages m page a n list → IsOff pages m p2 m2 page → SameSigns (word_in m) (word_in m2) page → IsOnlyHeads pages p2 → IsLowered p2 p3 page → Clears (word_in m2) (word_in m3) page → IsInArenas m2 m3 → CanPutOn p3 m3 page 0 0
-end_put_on pages p2 p3 m m2 m3 page a n list c off signs only low clears s =
-    let f = end_fits pages p2 p3 m m2 m3 page a n list c off signs only low clears s c.live.others c.live.waiting c.live.fits in
-    let is = (block_after p2 p3 page a n low.sizes.page low.count (same_block pages p2 page a n only c.block)).page in
-    record {
-      stands = record { live = c.live.others; waiting = c.live.waiting; spare = 0; fits = f };
-      is_page = is;
-      is_list = refl;
-      not_waiting = omega arith;
-      in_heads = heads_long f page 0 is (omega arith);
-      right = record { known = omega arith; unused = λ e. clears.class; used = λ e. absurd (e refl); room = λ e. absurd (omega arith); full = λ e. absurd (omega arith); busy = λ e. absurd (omega arith) };
-    }
+-- a step from listed pages to pages without one
+abbrev pub IsOff : Pages → Memory → Pages → Memory → ℕ → Type 0
+IsOff pages m p2 m2 page = (live : List Extent) (waiting : List ℕ) → HasBlocks pages m live waiting → HasBlocksBut p2 m2 live waiting page
+
+pub end_fits : (pages p2 p3 : Pages) (m m2 m3 : Memory) (page a n list : ℕ) → CanEnd pages m page a n list → IsOff pages m p2 m2 page → SameSigns (word_in m) (word_in m2) page → IsOnlyHeads pages p2 → IsLowered p2 p3 page → Clears (word_in m2) (word_in m3) page → IsInArenas m2 m3 → (live : List Extent) (waiting : List ℕ) → HasBlocks pages m ((a, n) ∷ live) waiting → HasBlocks p3 m3 live waiting
+end_fits pages p2 p3 m m2 m3 page a n list c off signs only low clears s live waiting f =
+    last_goes p2 p3 m2 m3 live waiting page a n (off ((a, n) ∷ live) waiting f) (same_block pages p2 page a n only c.block) (signs.count ∙ c.one) low clears s
 
 pub full_put : (pages p2 : Pages) (m m2 : Memory) (page a n : ℕ) → CanGiveFull pages m page a n → IsOff pages m p2 m2 page → IsOnlyHeads pages p2 → CanPut m2 page a
-full_put pages p2 m m2 page a n c off only = can_put p2 m2 c.live.others c.live.waiting page 0 page a n (off ((a, n) ∷ c.live.others) c.live.waiting c.live.fits) (same_block pages p2 page a n only c.block)
+full_put pages p2 m m2 page a n c off only = can_put p2 m2 c.live.others c.live.waiting page page a n (off ((a, n) ∷ c.live.others) c.live.waiting c.live.fits) (same_block pages p2 page a n only c.block)
 
-pub full_fits : (pages p2 : Pages) (m m2 m3 : Memory) (page a n : ℕ) → CanGiveFull pages m page a n → IsOff pages m p2 m2 page → IsOnlyHeads pages p2 → GivesBack (word_in m2) (word_in m3) page a → IsInArenas m2 m3 → (live : List Extent) (waiting : List ℕ) → HasBlocks pages m ((a, n) ∷ live) waiting → HasBlocksBut p2 m3 live waiting page 0
+pub full_fits : (pages p2 : Pages) (m m2 m3 : Memory) (page a n : ℕ) → CanGiveFull pages m page a n → IsOff pages m p2 m2 page → IsOnlyHeads pages p2 → GivesBack (word_in m2) (word_in m3) page a → IsInArenas m2 m3 → (live : List Extent) (waiting : List ℕ) → HasBlocks pages m ((a, n) ∷ live) waiting → HasBlocksBut p2 m3 live waiting page
 full_fits pages p2 m m2 m3 page a n c off only g s live waiting f =
-    given_fits p2 m2 m3 live waiting page 0 page a n (off ((a, n) ∷ live) waiting f) (same_block pages p2 page a n only c.block) g s (λ ne. absurd (ne refl))
+    given_fits p2 m2 m3 live waiting page page a n (off ((a, n) ∷ live) waiting f) (same_block pages p2 page a n only c.block) g s (λ ne. absurd (ne refl))
 
 pub full_put_on : (pages p2 : Pages) (m m2 m3 : Memory) (page a n : ℕ) → CanGiveFull pages m page a n → IsOff pages m p2 m2 page → SameSigns (word_in m) (word_in m2) page → IsOnlyHeads pages p2 → GivesBack (word_in m2) (word_in m3) page a → IsInArenas m2 m3 → CanPutOn p2 m3 page (2 * n) 1
 full_put_on pages p2 m m2 m3 page a n c off signs only g s =
@@ -119,10 +87,10 @@ full_put_on pages p2 m m2 m3 page a n c off signs only g s =
     let same : word_in m2 (page + 2) ≡ word_in m (page + 2) = signs.count in
     let more : 2 ≤ word_in m (page + 2) = c.more in
     record {
-      stands = record { live = c.live.others; waiting = c.live.waiting; spare = 0; fits = full_fits pages p2 m m2 m3 page a n c off only g s c.live.others c.live.waiting c.live.fits };
+      stands = record { live = c.live.others; waiting = c.live.waiting; fits = full_fits pages p2 m m2 m3 page a n c off only g s c.live.others c.live.waiting c.live.fits };
       is_page = b.page;
       is_list = (let e : word_in m3 page ≡ n = class ∙ is_n in ap (λ (k : ℕ). 2 * k) (sym e) ∙ omega arith);
-      not_waiting = omega arith;
+      low = omega arith;
       in_heads = let long : word_in m2 (page_at p2.page b.page.number) ≤ p2.small = f2.classes.small b.page.number b.page.below in let at : page ≡ page_at p2.page b.page.number = b.page.is in let c3 : word_in m2 (page_at p2.page b.page.number) ≡ n = ap (word_in m2) (sym at) ∙ is_n in heads_long f2 page (2 * n) b.page (omega arith);
       right = record { known = omega arith; unused = λ e. absurd (omega arith); used = λ e. omega arith; room = λ e. inl (omega arith); full = λ e. absurd (omega arith); busy = λ e. omega arith };
     }
@@ -145,14 +113,14 @@ pub give_facts : (pages : Pages) (m : Memory) (page a n : ℕ) → IsLive pages 
 give_facts pages m page a n l is =
     let f = l.fits in
     let b : BlockIn pages.page pages.count page a n = block_in (word_in m) pages.page pages.count a n page l.others f.blocks is in
-    let put : CanPut m page a = can_put pages m l.others l.waiting 0 0 page a n f b in
+    let put : CanPut m page a = can_put pages m l.others l.waiting 0 page a n f b in
     let u = used_page (word_in m) pages.page pages.count a n page l.others f.blocks b in
     let first = (Each-right (IsBlockOf (word_in m page) (page + 8) (word_in m (page + 3))) u.free ((a, n) ∷ blocks_of pages.page page l.others) u.holds.blocks).0 in
     let class : word_in m page ≡ n = sym first.0 in
     let two : 2 ≤ n = b.wide in
     let low : page + 8 ≤ a = b.low in
     let high : a + n ≤ page + pages.page = b.high in
-    let big : pages.page ≤ 8192 = f.size_high in
+    let big : pages.page ≤ 8192 = f.setup.size_high in
     let at : page ≡ page_at pages.page b.page.number = b.page.is in
     let right : IsListedRightly (word_in m) pages.page page = subst (λ (q : ℕ). IsListedRightly (word_in m) pages.page q) (sym at) (f.lists.rightly b.page.number b.page.below (omega arith)) in
     record {
@@ -176,7 +144,7 @@ can_take_off pages m page a n l g no3 =
       stands = record { live = (a, n) ∷ l.others; waiting = l.waiting; fits = l.fits };
       is_page = g.block.page;
       is_list = number_of_list (word_in m (page + 6)) (word_in m page) n g.class g.kind_low no3;
-      not_waiting = omega arith;
+      low = omega arith;
     }
 
 pub can_end : (pages : Pages) (m : Memory) (page a n kind live : ℕ) → IsLive pages m (a, n) → page ≡ page_at pages.page ((a - 4294967296) / pages.page) → kind ≡ word_in m (page + 6) → live ≡ word_in m (page + 2) → kind ≢ 3 → live ≡ 1 → CanEnd pages m page a n (2 * n + (kind - 1))
@@ -201,4 +169,4 @@ give_plain pages m new page a n kind live is is_kind is_live no2 more g s others
     let some : 0 < word_in m (page + 2) = h.live in
     let kind_same : word_in new (page + 6) ≡ word_in m (page + 6) = g.rest (page + 6) (omega arith) (omega arith) (omega arith) (omega arith) in
     let right : IsRight (word_in m (page + 6)) (word_in new) pages.page page = right_given (word_in m) (word_in new) pages.page page a (word_in m (page + 6)) low g h.right (λ e. no2 (is_kind ∙ e)) (λ e. let ne : live ≢ 1 = more (is_kind ∙ e) in omega arith) in
-    given_fits pages m new others waiting 0 0 page a n f h.block g s (λ ne. subst (λ (k : ℕ). IsRight k (word_in new) pages.page page) (sym kind_same) right)
+    given_fits pages m new others waiting 0 page a n f h.block g s (λ ne. subst (λ (k : ℕ). IsRight k (word_in new) pages.page page) (sym kind_same) right)

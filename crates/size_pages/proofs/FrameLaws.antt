@@ -5,16 +5,16 @@ use Rattle.std.proofs.lemmas.Bool.Decides.{eqb_tells}
 use Rattle.std.specs.List.{filter}
 use Rattle.heap_space.specs.Places.{lies_in_one, with_word}
 use Rattle.heap_space.specs.Memory.{Memory}
-use Rattle.heap_space.specs.Extents.{Extent, Each, AreApart, IsInside, IsOutside, extents_between, begins_between, lies_within, IsUntouched}
+use Rattle.heap_space.specs.Extents.{Extent, AreApart, IsInside, IsOutside, extents_between, begins_between, lies_within, IsUntouched}
 use Rattle.heap_space.proofs.Blocks.{word_at-elsewhere}
 use Rattle.heap_space.proofs.ExtentLaws.{Each-map, extents-with_word, lies_in_one-between, lies_within-part}
 use Rattle.size_pages.specs.PageWords.{Words, word_in}
 use Rattle.size_pages.specs.LiveBlocks.{page_at, IsInPages}
 use Rattle.size_pages.specs.PageLists.{ListsFit, SameSigns}
-use Rattle.size_pages.specs.HasBlocks.{HasBlocks}
+use Rattle.size_pages.specs.HasBlocks.{HasSetup, HasBlocks}
 use Rattle.size_pages.specs.declared.Pages.{Pages}
 use Rattle.size_pages.proofs.FitLaws.{pages_apart, pages_part, fits_frame}
-use Rattle.size_pages.proofs.ListMoves.{SameLinks, lists_frame, rightly_same}
+use Rattle.size_pages.proofs.ListMoves.{SameLinks, signs_from, lists_frame, rightly_same}
 use Rattle.size_pages.proofs.FitsLaws.{below_of, classes_same}
 use Rattle.size_pages.proofs.GiveLaws.{used_page}
 use Rattle.size_pages.specs.PageWords.{PageHolds, IsBlockOf}
@@ -39,32 +39,18 @@ HasBlocks_untouched pages old new live waiting f next size_same u =
     let w = word_in old in
     let now = word_in new in
     let wide : 64 ≤ size = f.blocks.size_low in
-    let end : old.next_arena ≡ page_at size (count + 0) = f.end in
-    let last : page_at size (count + 0) ≡ page_at size count = ap (page_at size) (omega arith) in
+    let end : old.next_arena ≡ page_at size count = f.arenas.end in
     let word : (k i : ℕ) → k < count → i < 8 → now (page_at size k + i) ≡ w (page_at size k + i) = λ k i below small.
     let part : page_at size k + size ≤ page_at size count = pages_part size k count below in
     u.words (page_at size k + i) (omega arith) (omega arith) (Each-map (IsInPages size count) (λ x. (page_at size k + i < x.0) ⊎ (x.0 + x.1 ≤ page_at size k + i)) (λ x is. outside_header size count k i x small is) live f.blocks.inside) in
-    let signs : (k : ℕ) → k < count → SameSigns w now (page_at size k) = λ k below. record {
-      class = subst (λ (e : ℕ). now e ≡ w e) (omega arith) (word k 0 below (omega arith));
-      chain = word k 1 below (omega arith);
-      count = word k 2 below (omega arith);
-      fresh = word k 3 below (omega arith);
-      kind = word k 6 below (omega arith);
-    } in
+    let signs : (k : ℕ) → k < count → SameSigns w now (page_at size k) = λ k below. signs_from w now (page_at size k) (λ i small n4 n5. word k i below small) in
     let lists : ListsFit now size count pages.heads.items waiting 0 = lists_frame w now size count pages.heads.items waiting 0 f.lists
     (λ x px n. subst (λ (y : ℕ). SameLinks w now y) (sym px.is) (let s = signs px.number px.below in record { class = s.class; next = word px.number 4 px.below (omega arith); before = word px.number 5 px.below (omega arith); kind = s.kind }))
     (λ k below n. rightly_same w now size (page_at size k) (signs k below) (f.lists.rightly k below n)) in
     let P : ℕ → ℕ → Type 0 = λ high k. lies_within (extents_between 4294967296 high new) (page_at size k) size ≡ true in
     record {
-      size_high = f.size_high;
-      arena_low = f.arena_low;
-      arena_high = f.arena_high;
-      small_low = f.small_low;
-      small_high = f.small_high;
-      arena_size = size_same ∙ f.arena_size;
-      end = next ∙ f.end;
-      below = f.below;
-      placed = λ k low. subst (λ (high : ℕ). P high k) (sym next) (ap (λ (xs : List Extent). lies_within xs (page_at size k) size) u.blocks ∙ f.placed k low);
+      setup = subst (HasSetup size pages.pages_per_arena pages.small) (sym size_same) f.setup;
+      arenas = record { end = next ∙ f.arenas.end; below = f.arenas.below; placed = λ k low. subst (λ (high : ℕ). P high k) (sym next) (ap (λ (xs : List Extent). lies_within xs (page_at size k) size) u.blocks ∙ f.arenas.placed k low) };
       blocks = fits_frame w now size count live f.blocks (λ e from upto out. u.words e (omega arith) (omega arith) out);
       classes = classes_same w now size count pages.small pages.lowest f.classes (λ k below. (signs k below).class) (λ k below. word k 7 below (omega arith));
       lists = lists;
@@ -119,13 +105,9 @@ HasBlocks_first pages m a n live waiting f =
     let class : w p ≡ n = sym (first_class w size p u.free (blocks_of size p live) a n u.holds) in
     let least : w p ≤ pages.small = f.classes.small k is.below in
     record {
-      lies = lies_in_one-between m 4294967296 m.next_arena a n (lies_within-part (extents_between 4294967296 m.next_arena m) p size a n (omega arith) (omega arith) (f.placed k (omega arith)));
+      lies = lies_in_one-between m 4294967296 m.next_arena a n (lies_within-part (extents_between 4294967296 m.next_arena m) p size a n (omega arith) (omega arith) (f.arenas.placed k is.below));
       wide = is.wide;
       small_enough = omega arith;
       low = omega arith;
       high = omega arith;
     }
-
--- the live blocks lie inside pages, behind the eight header words
-pub HasBlocks_inside : (pages : Pages) (m : Memory) (live : List Extent) (waiting : List ℕ) → HasBlocks pages m live waiting → Each (IsInPages pages.page pages.count) live
-HasBlocks_inside pages m live waiting f = f.blocks.inside

@@ -1,5 +1,5 @@
 -- The births of the dead objects of a page are gathered slot by slot.
-use Rattle.std.proofs.Common.{◌≡◌, ◌≢◌, ℕ, ◌+◌, ◌*◌, ◌<◌, ◌≤◌, ◌⊎◌, inl, inr, Bool, true, false, ◌&&◌, nat_lt, List, [], ◌∷◌, ◌++◌, map, append_assoc, arith, refl, sym, ◌∙◌, ap, subst}
+use Rattle.std.proofs.Common.{◌≡◌, ◌≢◌, ℕ, ◌+◌, ◌-◌, ◌*◌, ◌/◌, ◌<◌, ◌≤◌, ◌⊎◌, inl, inr, Bool, true, false, cond, ◌&&◌, nat_lt, List, [], ◌∷◌, ◌++◌, map, append_assoc, append-nil, arith, refl, sym, ◌∙◌, ap, subst}
 use Rattle.std.proofs.lemmas.Bool.{cases_Bool}
 use Rattle.std.proofs.lemmas.Bool.Decides.{nat_tests}
 use Rattle.std.proofs.lemmas.List.Sorted.{IsPermutation-refl, IsPermutation-sym, IsPermutation-trans, IsPermutation-cons, IsPermutation-middle, IsPermutation-to_front}
@@ -7,21 +7,21 @@ use Rattle.std.specs.List.{filter}
 use Rattle.std.specs.List.Sorted.{IsPermutation}
 use Rattle.heap_space.specs.Memory.{Memory}
 use Rattle.heap_space.specs.Extents.{Extent, Each}
-use Rattle.heap_space.proofs.ExtentLaws.{Each-map, Each-left, Each-right}
+use Rattle.heap_space.proofs.ExtentLaws.{Each-map}
 use Rattle.object_header.specs.Words.{has_flag}
 use Rattle.object_header.specs.declared.flags.Flag.TheVariants.{Free}
-use Rattle.size_pages.specs.PageWords.{Words, word_in, HasAll, IsBlockOf}
+use Rattle.size_pages.specs.PageWords.{Words, word_in, CanStore, HasAll, IsBlockOf}
 use Rattle.size_pages.specs.LiveBlocks.{page_at, blocks_of, in_page}
 use Rattle.size_pages.specs.Headers.{HasHeaders}
 use Rattle.size_pages.specs.Listing.{CanListBlocks}
 use Rattle.size_pages.specs.Sweeping.{is_dead, dies, birth_in}
 use Rattle.size_pages.specs.SlotSteps.{CanSweepAt, GathersBirths, HoldsNumbers}
 use Rattle.size_pages.specs.declared.Pages.{Pages}
-use Rattle.size_pages.proofs.FitLaws.{each_by_test}
+use Rattle.size_pages.proofs.FitLaws.{each_by_test, filter_skips}
 use Rattle.size_pages.proofs.ChoiceLaws.{IsWaitingPage, waiting_pages}
-use Rattle.size_pages.proofs.SplitLaws.{Among, filter_both, filter_same}
+use Rattle.size_pages.proofs.SplitLaws.{Among, IsSteady, split_at, filter_same, filter_steady, below_steady}
 use Rattle.size_pages.proofs.SlotLaws.{AreAway, PageSlots}
-use Rattle.size_pages.proofs.ListingLaws.{listed_page, slot_away, slot_among, page_blocks, filter_yes, filter_no}
+use Rattle.size_pages.proofs.ListingLaws.{listed_page, slot_away, slot_among, slots_count, slot_inside, page_blocks}
 
 -- the first waiting page
 pub sweep_page_is : (pages : Pages) (m : Memory) (page : ℕ) → CanSweepAt pages m page → IsWaitingPage (word_in m) pages.page pages.count page
@@ -63,11 +63,11 @@ module _ (pages : Pages) (m : Memory) (page class : ℕ) (c : CanListBlocks page
       (each_never (in_page pages.page p) (λ x. (p + 8 ≤ x.0) × (x.0 < word_in m (p + 3))) live)) in
       part (λ z. some (is_class ∙ z))
 
-and_false : (b : Bool) → (b && false) ≡ false
+pub and_false : (b : Bool) → (b && false) ≡ false
 and_false true = refl
 and_false false = refl
 
-and_true : (b : Bool) → (b && true) ≡ b
+pub and_true : (b : Bool) → (b && true) ≡ b
 and_true true = refl
 and_true false = refl
 
@@ -78,38 +78,8 @@ in_page_cases size p x = cases_Bool (in_page size p x)
 abbrev pub passes : (Extent → Bool) → ℕ → Extent → Bool
 passes t place x = t x && nat_lt x.0 place
 
-passes_away : (t : Extent → Bool) (low high : ℕ) (xs : List Extent) → low ≤ high → AreAway low high xs → filter (passes t high) xs ≡ filter (passes t low) xs
-passes_away t low high xs up away = filter_same (passes t high) (passes t low) xs (Each-map (λ x. (x.0 < low) ⊎ (high ≤ x.0)) (λ x. passes t high x ≡ passes t low x) (λ x out. ap (λ (b : Bool). t x && b) (let e : nat_lt x.0 high ≡ nat_lt x.0 low = grind (arith, nat_tests) in e)) xs away)
-
--- a block that is passed: where it passes the test it is one more
-pub record Passed (t : Extent → Bool) (b n : ℕ) (live : List Extent) : Type 0 where
-  pub front : List Extent
-  pub back : List Extent
-  pub was : filter (passes t b) live ≡ front ++ back
-  pub more : t (b, n) ≡ true → filter (passes t (b + n)) live ≡ front ++ (b, n) ∷ back
-  pub without : t (b, n) ≡ false → filter (passes t (b + n)) live ≡ front ++ back
-
-pub passed : (t : Extent → Bool) (b n : ℕ) (live : List Extent) → 0 < n → Among b n live → Passed t b n live
-passed t b n live some a =
-    let F = a.front in
-    let L = a.back in
-    let x : Extent = (b, n) in
-    let up = Each-left (λ y. (y.0 < b) ⊎ (b + n ≤ y.0)) F L a.away in
-    let back = Each-right (λ y. (y.0 < b) ⊎ (b + n ≤ y.0)) F L a.away in
-    let here : nat_lt b (b + n) ≡ true = grind (arith, nat_tests) in
-    let not_yet : nat_lt b b ≡ false = grind (arith, nat_tests) in
-    let fs : filter (passes t (b + n)) F ≡ filter (passes t b) F = passes_away t b (b + n) F (omega arith) up in
-    let ls : filter (passes t (b + n)) L ≡ filter (passes t b) L = passes_away t b (b + n) L (omega arith) back in
-    let both : (k : ℕ) → filter (passes t k) live ≡ filter (passes t k) F ++ filter (passes t k) (x ∷ L) = λ k. ap (filter (passes t k)) a.is ∙ filter_both (passes t k) F (x ∷ L) in
-    record {
-      front = filter (passes t b) F;
-      back = filter (passes t b) L;
-      was = both b ∙ ap (λ (ys : List Extent). filter (passes t b) F ++ ys) (filter_no (passes t b) x L (ap (λ (c : Bool). t x && c) not_yet ∙ and_false (t x)));
-      more = λ yes_. both (b + n) ∙ ap (λ (ys : List Extent). ys ++ filter (passes t (b + n)) (x ∷ L)) fs
-          ∙ ap (λ (ys : List Extent). filter (passes t b) F ++ ys) (filter_yes (passes t (b + n)) x L (ap (λ (c : Bool). c && nat_lt b (b + n)) yes_ ∙ here) ∙ ap (λ (ys : List Extent). x ∷ ys) ls);
-      without = λ no_. both (b + n) ∙ ap (λ (ys : List Extent). ys ++ filter (passes t (b + n)) (x ∷ L)) fs
-          ∙ ap (λ (ys : List Extent). filter (passes t b) F ++ ys) (filter_no (passes t (b + n)) x L (ap (λ (c : Bool). c && nat_lt b (b + n)) no_) ∙ ls);
-    }
+passes_steady : (t : Extent → Bool) → IsSteady (passes t)
+passes_steady t low high x up out = ap (λ (b : Bool). t x && b) (below_steady low high x up out)
 
 map_both : (f : Extent → ℕ) (xs ys : List Extent) → map f (xs ++ ys) ≡ map f xs ++ map f ys
 map_both f [] ys = refl
@@ -121,13 +91,9 @@ pub record BirthsTo (pages : Pages) (m : Memory) (page : ℕ) (old new : List �
       → (births : List ℕ) × (new ≡ old ++ births) × IsPermutation (map (birth_in (word_in m)) (filter (passes (dies (word_in m) pages.page page) place) live)) births
   pub holds : HoldsNumbers old new
 
-no_more : (xs : List ℕ) → xs ++ [] ≡ xs
-no_more [] = refl
-no_more (x ∷ xs) = ap (λ (ys : List ℕ). x ∷ ys) (no_more xs)
-
 filter_none : (t : Extent → Bool) (xs : List Extent) → Each (λ x. t x ≡ false) xs → filter t xs ≡ []
 filter_none t [] all = refl
-filter_none t (x ∷ xs) all = filter_no t x xs all.0 ∙ filter_none t xs all.1
+filter_none t (x ∷ xs) all = filter_skips t x xs all.0 ∙ filter_none t xs all.1
 
 pub dies_in : (w : Words) (size p : ℕ) (x : Extent) → in_page size p x ≡ false → dies w size p x ≡ false
 dies_in w size p x e = ap (λ (b : Bool). b && is_dead (w x.0)) e
@@ -142,8 +108,8 @@ births_none pages m page class c is_class some old = record {
         | inl e ↦ (let low : page + 8 ≤ x.0 = (part e).0 in ap (λ (b : Bool). t x && b) (let l : nat_lt x.0 (page + 8 + 0 * class) ≡ false = grind (arith, nat_tests) in l) ∙ and_false (t x))
         | inr e ↦ ap (λ (b : Bool). b && nat_lt x.0 (page + 8 + 0 * class)) (dies_in w pages.page page x e)
       ]) live (page_part pages m page class c is_class some live (page ∷ rest) h)) in
-      ([], sym (no_more old), subst (λ (xs : List Extent). IsPermutation (map (birth_in w) xs) []) (sym none) (IsPermutation-refl []));
-  holds = record { more = []; is = sym (no_more old) };
+      ([], sym (append-nil old), subst (λ (xs : List Extent). IsPermutation (map (birth_in w) xs) []) (sym none) (IsPermutation-refl []));
+  holds = record { more = []; is = sym (append-nil old) };
 }
 
 -- a free slot, or one whose block does not die
@@ -160,11 +126,14 @@ births_push pages m page old new last b n some e dead here t =
     record {
       gathered = λ live rest h.
           let r = t.gathered live rest h in
-          let d = passed (dies (word_in m) pages.page page) b n live some (here live rest h) in
+          let t = dies (word_in m) pages.page page in
+          let d = split_at (passes t) (passes_steady t) b n live (here live rest h) in
           let F = map f d.front in
           let L = map f d.back in
-          let after : map f (filter (passes (dies (word_in m) pages.page page) (b + n)) live) ≡ F ++ y ∷ L = ap (map f) (d.more dead) ∙ map_both f d.front ((b, n) ∷ d.back) in
-          let was : map f (filter (passes (dies (word_in m) pages.page page) b) live) ≡ F ++ L = ap (map f) d.was ∙ map_both f d.front d.back in
+          let less : nat_lt b (b + n) ≡ true = grind (arith, nat_tests) in
+          let same : nat_lt b b ≡ false = grind (arith, nat_tests) in
+          let after : map f (filter (passes t (b + n)) live) ≡ F ++ y ∷ L = ap (map f) (d.behind ∙ ap (λ (c : Bool). d.front ++ cond c ((b, n) ∷ d.back) d.back) (ap (λ (c : Bool). c && nat_lt b (b + n)) dead ∙ less)) ∙ map_both f d.front ((b, n) ∷ d.back) in
+          let was : map f (filter (passes t b) live) ≡ F ++ L = ap (map f) (d.before ∙ ap (λ (c : Bool). d.front ++ cond c ((b, n) ∷ d.back) d.back) (ap (λ (c : Bool). t (b, n) && c) same ∙ and_false (t (b, n)))) ∙ map_both f d.front d.back in
           let held : IsPermutation (F ++ L) r.0 = subst (λ (ys : List ℕ). IsPermutation ys r.0) was r.2 in (
             r.0 ++ y ∷ [],
             e ∙ ap (λ (ys : List ℕ). ys ++ y ∷ []) r.1 ∙ append_assoc old r.0 (y ∷ []),
@@ -187,20 +156,26 @@ passes_all pages m page class c is_class some t out live waiting h =
     ]) live (page_part pages m page class c is_class some live waiting h))
 
 module _ (pages : Pages) (m : Memory) (page class : ℕ) (c : CanListBlocks pages m page) (is_class : class ≡ word_in m page) (some : class ≢ 0) where
-  pub births_slot : (i : ℕ) (old new last : List ℕ) → page + 8 + i * class + class ≤ page + pages.page → page + 8 + i * class < word_in m (page + 3) → BirthsTo pages m page old new (page + 8 + i * class)
+  pub births_slot : (i : ℕ) (old new last : List ℕ) → page + 8 + i * class + class ≤ word_in m (page + 3) → BirthsTo pages m page old new (page + 8 + i * class)
       → ((has_flag (word_in m (page + 8 + i * class)) Free ≡ true) × (last ≡ new)) ⊎ (((has_flag (word_in m (page + 8 + i * class)) Free ≡ false) × (is_dead (word_in m (page + 8 + i * class)) ≡ false) × (last ≡ new)) ⊎ ((has_flag (word_in m (page + 8 + i * class)) Free ≡ false) × (is_dead (word_in m (page + 8 + i * class)) ≡ true) × (last ≡ new ++ word_in m (page + 8 + i * class + 1) ∷ [])))
       → BirthsTo pages m page old last (page + 8 + (i + 1) * class)
-  births_slot i old new last high inside t which =
+  births_slot i old new last ends t which =
+      let s = (listed_page pages m page c).slots (λ z. some (is_class ∙ z)) in
+      let fresh_high : word_in m (page + 3) ≤ page + pages.page = s.fresh_high in
+      let two : 2 ≤ class = subst (λ (k : ℕ). 2 ≤ k) (sym is_class) s.words in
       let b = page + 8 + i * class in
+      let inside : b < word_in m (page + 3) = omega arith in
       let d = dies (word_in m) pages.page page in
       let next : b + class ≡ page + 8 + (i + 1) * class = (let e : (i + 1) * class ≡ i * class + class = grind arith in omega arith) in
       let here : in_page pages.page page (b, class) ≡ true = grind (arith, nat_tests) in
       let is : (v : Bool) → is_dead (word_in m b) ≡ v → d (b, class) ≡ v = λ v e. ap (λ (x : Bool). x && is_dead (word_in m b)) here ∙ e in
       let skip : last ≡ new → ((live : List Extent) (rest : List ℕ) → HasHeaders pages m live (page ∷ rest) → filter (passes d (b + class)) live ≡ filter (passes d b) live) → BirthsTo pages m page old last (b + class) = λ e same. subst (λ (xs : List ℕ). BirthsTo pages m page old xs (b + class)) (sym e) (births_skip pages m page old new b (b + class) same t) in
       subst (λ (place : ℕ). BirthsTo pages m page old last place) next (elim which [
-        | inl h ↦ skip h.1 (λ live rest has. passes_away d b (b + class) live (omega arith) (at_free pages m page class c is_class some i inside h.0 live (page ∷ rest) has))
+        | inl h ↦ skip h.1 (λ live rest has. filter_steady (passes d) (passes_steady d) b (b + class) live (omega arith) (at_free pages m page class c is_class some i inside h.0 live (page ∷ rest) has))
         | inr k ↦ elim k [
-          | inl h ↦ skip h.2 (λ live rest has. let p = passed d b class live (omega arith) (at_live pages m page class c is_class some i inside h.0 live (page ∷ rest) has) in p.without (is false h.1) ∙ sym p.was)
+          | inl h ↦ skip h.2 (λ live rest has. let p = split_at (passes d) (passes_steady d) b class live (at_live pages m page class c is_class some i inside h.0 live (page ∷ rest) has) in
+              let out : (k : ℕ) → passes d k (b, class) ≡ false = λ k. ap (λ (v : Bool). v && nat_lt b k) (is false h.1) in
+              p.behind ∙ ap (λ (v : Bool). p.front ++ cond v ((b, class) ∷ p.back) p.back) (out (b + class) ∙ sym (out b)) ∙ sym p.before)
           | inr h ↦ births_push pages m page old new last b class (omega arith) h.2 (is true h.1) (λ live rest has. at_live pages m page class c is_class some i inside h.0 live (page ∷ rest) has) t
         ]
       ])
@@ -229,3 +204,33 @@ swept_page pages m page c =
     let g = listed_page pages m page can in
     let used : word_in m page ≢ 0 = λ z. let two : 2 ≤ word_in m page = w.used in omega arith in
     record { can = can; used = used; all = g.all; slots = g.slots used; wide = g.wide; high = g.high }
+
+-- the slots of the first waiting page, by their numbers
+module _ (pages : Pages) (m : Memory) (page class count : ℕ) (c : CanSweepAt pages m page) (is_class : class ≡ word_in m page) (is_count : count ≡ (word_in m (page + 3) - (page + 8)) / class) where
+  all_slots : count ≡ (swept_page pages m page c).slots.slots
+  all_slots = is_count ∙ slots_count (word_in m) pages.page page (word_in m (page + 3)) class (swept_page pages m page c).slots refl is_class
+
+  pub slot_in : (i : ℕ) → i < count → page + 8 + i * class + class ≤ word_in m (page + 3)
+  slot_in i below = slot_inside (word_in m) pages.page page i class (swept_page pages m page c).slots is_class (subst (λ (k : ℕ). i < k) all_slots below)
+
+  pub slot_birth : (i : ℕ) → i < count → CanStore m (page + 8 + i * class + 1)
+  slot_birth i below =
+      let g = swept_page pages m page c in
+      let ends = slot_in i below in
+      let high : word_in m (page + 3) ≤ page + pages.page = g.slots.fresh_high in
+      let two : 2 ≤ class = subst (λ (k : ℕ). 2 ≤ k) (sym is_class) g.slots.words in
+      g.all (page + 8 + i * class + 1) (omega arith) (omega arith)
+
+  pub slot_word : (i : ℕ) → i < count → CanStore m (page + 8 + i * class)
+  slot_word i below =
+      let g = swept_page pages m page c in
+      let ends = slot_in i below in
+      let high : word_in m (page + 3) ≤ page + pages.page = g.slots.fresh_high in
+      let two : 2 ≤ class = subst (λ (k : ℕ). 2 ≤ k) (sym is_class) g.slots.words in
+      g.all (page + 8 + i * class) (omega arith) (omega arith)
+
+  pub slots_end : (i : ℕ) → i ≡ count → page + 8 + i * class ≡ word_in m (page + 3)
+  slots_end i last =
+      let g = swept_page pages m page c in
+      let all : g.slots.slots * word_in m page + (page + 8) ≡ word_in m (page + 3) = g.slots.all in
+      let e : i * class ≡ g.slots.slots * word_in m page = ap (λ (k : ℕ). k * class) (last ∙ all_slots) ∙ ap (λ (k : ℕ). g.slots.slots * k) is_class in omega arith

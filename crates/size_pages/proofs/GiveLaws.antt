@@ -7,13 +7,14 @@ use Rattle.heap_space.specs.Extents.{Extent}
 use Rattle.size_pages.specs.PageWords.{Words, word_in, IsInArenas, PageHolds, GivesBack, Clears}
 use Rattle.size_pages.specs.LiveBlocks.{page_at, blocks_of, BlocksFit, ClassesFit, PageIs}
 use Rattle.size_pages.specs.PageLists.{IsPage, IsRight, IsListedRightly, ListsFit, SameSigns}
-use Rattle.size_pages.specs.HasBlocks.{HasBlocksBut}
+use Rattle.size_pages.specs.HasBlocks.{HasSetup, HasBlocks, HasBlocksBut}
+use Rattle.size_pages.specs.Growth.{IsLowered}
 use Rattle.size_pages.specs.Steps.{CanPut, IsOnlyHeads, BlockIn}
 use Rattle.size_pages.specs.declared.Pages.{Pages}
 use Rattle.size_pages.proofs.PageLaws.{holds_given}
-use Rattle.size_pages.proofs.FitLaws.{pages_apart, pages_part, fits_less, page_of_block, page_used, stays_elsewhere}
-use Rattle.size_pages.proofs.ListMoves.{SameLinks, lists_frame, rightly_same}
-use Rattle.size_pages.proofs.FitsLaws.{fits_new, page_facts, header_has, below_of, places_of}
+use Rattle.size_pages.proofs.FitLaws.{pages_apart, pages_part, fits_one, fits_less, page_of_block, page_used, stays_elsewhere}
+use Rattle.size_pages.proofs.ListMoves.{SameLinks, signs_from, lists_frame, lists_unused, rightly_same}
+use Rattle.size_pages.proofs.FitsLaws.{arenas_stay, fits_new, page_facts, header_has, below_of, places_of}
 
 -- nothing of the pages' numbers changes
 pub only_same : (pages : Pages) → IsOnlyHeads pages pages
@@ -57,13 +58,7 @@ other_word size count x p i wide px pp n small =
 pub lists_inner : (old new : Words) (size count : ℕ) (heads waiting : List ℕ) (except p : ℕ) → 64 ≤ size → ListsFit old size count heads waiting except → IsPage size count p → IsOnlyPage old new p size → (p ≢ except → SameLinks old new p × IsListedRightly new size p) → ListsFit new size count heads waiting except
 lists_inner old new size count heads waiting except p wide h pp same here =
     let word : (x i : ℕ) → IsPage size count x → x ≢ p → i < 8 → new (x + i) ≡ old (x + i) = λ x i px n small. same (x + i) (other_word size count x p i wide px pp n small) in
-    let signs : (x : ℕ) → IsPage size count x → x ≢ p → SameSigns old new x = λ x px n. record {
-      class = subst (λ (e : ℕ). new e ≡ old e) (omega arith) (word x 0 px n (omega arith));
-      chain = word x 1 px n (omega arith);
-      count = word x 2 px n (omega arith);
-      fresh = word x 3 px n (omega arith);
-      kind = word x 6 px n (omega arith);
-    } in
+    let signs : (x : ℕ) → IsPage size count x → x ≢ p → SameSigns old new x = λ x px n. signs_from old new x (λ i small n4 n5. word x i px n small) in
     lists_frame old new size count heads waiting except h
     (λ x px n. elim (eqb_tells x p) [
       | inl a ↦ subst (λ (y : ℕ). SameLinks old new y) (sym a.1) (here (λ e. n (a.1 ∙ e))).0
@@ -106,8 +101,8 @@ used_page w size count a n p live h b =
     let is : PageIs w size p ((a, n) ∷ blocks_of size p live) = subst (λ (q : ℕ). PageIs w size q ((a, n) ∷ blocks_of size q live)) (sym at) (page_of_block w size count k (a, n) live b.page.below h (omega arith) (omega arith)) in
     record { free = is.free; holds = is.holds (λ e. let no_blocks = is.unused e in (cc)) }
 
-pub can_put : (pages : Pages) (m : Memory) (live : List Extent) (waiting : List ℕ) (except spare page a n : ℕ) → HasBlocksBut pages m ((a, n) ∷ live) waiting except spare → BlockIn pages.page pages.count page a n → CanPut m page a
-can_put pages m live waiting except spare page a n f b =
+pub can_put : (pages : Pages) (m : Memory) (live : List Extent) (waiting : List ℕ) (except page a n : ℕ) → HasBlocksBut pages m ((a, n) ∷ live) waiting except → BlockIn pages.page pages.count page a n → CanPut m page a
+can_put pages m live waiting except page a n f b =
     let size = pages.page in
     let count = pages.count in
     let wide : 64 ≤ size = f.blocks.size_low in
@@ -128,9 +123,23 @@ can_put pages m live waiting except spare page a n f b =
       count = omega arith;
     }
 
+-- one page changes, whose class stays within the most, and its links stay where it is listed
+pub page_changes : (pages : Pages) (m new : Memory) (xs ys : List Extent) (waiting : List ℕ) (except page : ℕ) → HasBlocksBut pages m xs waiting except → IsPage pages.page pages.count page → IsInArenas m new → IsOnlyPage (word_in m) (word_in new) page pages.page → BlocksFit (word_in new) pages.page pages.count ys
+    → word_in new page ≤ pages.small → word_in new page ≢ 0 → word_in new (page + 7) ≡ word_in m (page + 7) → (page ≢ except → SameLinks (word_in m) (word_in new) page × IsListedRightly (word_in new) pages.page page) → HasBlocksBut pages new ys waiting except
+page_changes pages m new xs ys waiting except page f is s only blocks small used last listed =
+    let size = pages.page in
+    let wide : 64 ≤ size = f.blocks.size_low in
+    let at : page ≡ page_at size is.number = is.is in
+    fits_new pages pages m new xs ys waiting except except f (only_same pages) s blocks
+    (classes_one (word_in m) (word_in new) size pages.count pages.small pages.lowest pages.lowest is.number f.classes (omega arith)
+    (subst (λ (q : ℕ). (e : ℕ) → (e < q) ⊎ (q + size ≤ e) → word_in new e ≡ word_in m e) at only) wide
+    (subst (λ (q : ℕ). word_in new q ≤ pages.small) at small) (λ below. subst (λ (q : ℕ). word_in new q ≢ 0) at used)
+    (subst (λ (q : ℕ). word_in new (q + 7) ≡ word_in m (q + 7)) at last))
+    (lists_inner (word_in m) (word_in new) size pages.count pages.heads.items waiting except page wide f.lists is only listed)
+
 -- the block goes on the chain of its page
-pub given_fits : (pages : Pages) (m new : Memory) (live : List Extent) (waiting : List ℕ) (except spare page a n : ℕ) → HasBlocksBut pages m ((a, n) ∷ live) waiting except spare → BlockIn pages.page pages.count page a n → GivesBack (word_in m) (word_in new) page a → IsInArenas m new → (page ≢ except → IsListedRightly (word_in new) pages.page page) → HasBlocksBut pages new live waiting except spare
-given_fits pages m new live waiting except spare page a n f b g s right =
+pub given_fits : (pages : Pages) (m new : Memory) (live : List Extent) (waiting : List ℕ) (except page a n : ℕ) → HasBlocksBut pages m ((a, n) ∷ live) waiting except → BlockIn pages.page pages.count page a n → GivesBack (word_in m) (word_in new) page a → IsInArenas m new → (page ≢ except → IsListedRightly (word_in new) pages.page page) → HasBlocksBut pages new live waiting except
+given_fits pages m new live waiting except page a n f b g s right =
     let size = pages.page in
     let count = pages.count in
     let old = word_in m in
@@ -143,18 +152,17 @@ given_fits pages m new live waiting except spare page a n f b g s right =
     let at : page ≡ page_at size k = b.page.is in
     let only : IsOnlyPage old now page size = λ e out. elim out [ inl x ↦ g.rest e (omega arith) (omega arith) (omega arith) (omega arith) | inr y ↦ g.rest e (omega arith) (omega arith) (omega arith) (omega arith) ] in
     let word : (i : ℕ) → i < 8 → i ≢ 1 → i ≢ 2 → now (page + i) ≡ old (page + i) = λ i small n1 n2. g.rest (page + i) (omega arith) (omega arith) (omega arith) (omega arith) in
+    let class : now page ≡ old page = g.rest page (omega arith) (omega arith) (omega arith) (omega arith) in
     let u = used_page old size count a n page live f.blocks b in
+    let words : 2 ≤ old page = u.holds.words in
     let holds : PageHolds now size page ((a, n) ∷ u.free) (blocks_of size page live) = holds_given old now size page (a, n) u.free (blocks_of size page live) u.holds g in
-    let blocks : BlocksFit now size count live = fits_less old now size count k (a, n) [] live b.page.below f.blocks (omega arith) (omega arith)
+    page_changes pages m new ((a, n) ∷ live) live waiting except page f b.page s only
+    (fits_less old now size count k (a, n) [] live b.page.below f.blocks (omega arith) (omega arith)
     (subst (λ (q : ℕ). PageIs now size q (blocks_of size q live)) at (page_used now size page ((a, n) ∷ u.free) (blocks_of size page live) holds))
-    (stays_elsewhere old now size count k (subst (λ (q : ℕ). (e : ℕ) → (e < q) ⊎ (q + size ≤ e) → now e ≡ old e) at only)) in
-    let lists : ListsFit now size count pages.heads.items waiting except = lists_inner old now size count pages.heads.items waiting except page wide f.lists b.page only
-    (λ ne. (record { class = subst (λ (e : ℕ). now e ≡ old e) (omega arith) (word 0 (omega arith) (omega arith) (omega arith)); next = word 4 (omega arith) (omega arith) (omega arith); before = word 5 (omega arith) (omega arith) (omega arith); kind = word 6 (omega arith) (omega arith) (omega arith) }, right ne)) in
-    let is_class : now (page_at size k) ≡ old (page_at size k) = subst (λ (q : ℕ). now q ≡ old q) at (subst (λ (e : ℕ). now e ≡ old e) (omega arith) (word 0 (omega arith) (omega arith) (omega arith))) in
-    let classes : ClassesFit now size count pages.small pages.lowest = classes_one old now size count pages.small pages.lowest pages.lowest k f.classes (omega arith) (subst (λ (q : ℕ). (e : ℕ) → (e < q) ⊎ (q + size ≤ e) → now e ≡ old e) at only) wide
-    (subst (λ (c : ℕ). c ≤ pages.small) (sym is_class) (f.classes.small k b.page.below)) (λ below e. f.classes.used k below (sym is_class ∙ e))
-    (subst (λ (q : ℕ). now (q + 7) ≡ old (q + 7)) at (word 7 (omega arith) (omega arith) (omega arith))) in
-    fits_new pages pages m new ((a, n) ∷ live) live waiting except except spare f (only_same pages) s blocks classes lists
+    (stays_elsewhere old now size count k (subst (λ (q : ℕ). (e : ℕ) → (e < q) ⊎ (q + size ≤ e) → now e ≡ old e) at only)))
+    (subst (λ (c : ℕ). c ≤ pages.small) (sym class) (subst (λ (q : ℕ). old q ≤ pages.small) (sym at) (f.classes.small k b.page.below)))
+    (λ z. omega (arith, sym class ∙ z, words)) (word 7 (omega arith) (omega arith) (omega arith))
+    (λ ne. (record { class = class; next = word 4 (omega arith) (omega arith) (omega arith); before = word 5 (omega arith) (omega arith) (omega arith); kind = word 6 (omega arith) (omega arith) (omega arith) }, right ne))
 
 -- the page's words after it got a free block
 pub right_given : (old new : Words) (size p a kind : ℕ) → p + 8 ≤ a → GivesBack old new p a → IsRight kind old size p → kind ≢ 2 → (kind ≡ 1 → 2 ≤ old (p + 2)) → IsRight kind new size p
@@ -174,30 +182,68 @@ pub length_none : (xs : List Extent) → length xs ≡ 0 → xs ≡ []
 length_none [] e = refl
 length_none (x ∷ xs) e = absurd (omega arith)
 
--- the last block of an unlisted page goes
-pub cleared_fits : (pages : Pages) (m new : Memory) (live : List Extent) (waiting : List ℕ) (page a n : ℕ) → HasBlocksBut pages m ((a, n) ∷ live) waiting page 0 → page_at pages.page pages.lowest ≤ page → BlockIn pages.page pages.count page a n → word_in m (page + 2) ≡ 1 → Clears (word_in m) (word_in new) page → IsInArenas m new → HasBlocksBut pages new live waiting page 0
-cleared_fits pages m new live waiting page a n f lowered b one g s =
+-- all words but the page's own stay where it is cleared
+pub cleared_only : (old new : Words) (size p : ℕ) → 64 ≤ size → Clears old new p → IsOnlyPage old new p size
+cleared_only old new size p wide g e out = elim out [ inl x ↦ g.rest e (omega arith) (omega arith) (omega arith) (omega arith) (omega arith) | inr y ↦ g.rest e (omega arith) (omega arith) (omega arith) (omega arith) (omega arith) ]
+
+-- a page with no live block left, on no list, is unused from then on
+pub cleared_fits : (pages after : Pages) (m new : Memory) (xs live : List Extent) (waiting : List ℕ) (page : ℕ) → HasBlocksBut pages m xs waiting page → IsPage pages.page pages.count page → IsLowered pages after page → Clears (word_in m) (word_in new) page → IsInArenas m new → BlocksFit (word_in new) pages.page pages.count live → HasBlocks after new live waiting
+cleared_fits pages after m new xs live waiting page f is low g s blocks =
     let size = pages.page in
     let count = pages.count in
     let old = word_in m in
     let now = word_in new in
+    let wide : 64 ≤ size = f.blocks.size_low in
+    let k = is.number in
+    let at : page ≡ page_at size k = is.is in
+    let only : IsOnlyPage old now page size = cleared_only old now size page wide g in
+    let lower : page_at size after.lowest ≤ page = low.lower in
+    let class : now (page_at size k) ≡ 0 = subst (λ (q : ℕ). now q ≡ 0) at g.class in
+    subst (λ (q : Pages). HasBlocks q new live waiting) (sym low.is) (record {
+      setup = subst (HasSetup size pages.pages_per_arena pages.small) (sym s.arena_words) f.setup;
+      arenas = arenas_stay m new size count s f.arenas;
+      blocks = blocks;
+      classes = classes_one old now size count pages.small pages.lowest after.lowest k f.classes low.below (subst (λ (q : ℕ). (e : ℕ) → (e < q) ⊎ (q + size ≤ e) → now e ≡ old e) at only) wide (omega arith)
+          (λ below. absurd (let up : page_at size k + size ≤ page_at size after.lowest = pages_part size k after.lowest below in omega arith))
+          (subst (λ (q : ℕ). now (q + 7) ≡ old (q + 7)) at (g.rest (page + 7) (omega arith) (omega arith) (omega arith) (omega arith) (omega arith)));
+      lists = lists_unused now size count pages.heads.items waiting page (lists_inner old now size count pages.heads.items waiting page page wide f.lists is only (λ ne. absurd (ne refl))) g.class g.kind;
+      heads = f.heads;
+      waits = f.waits;
+      rising = f.rising;
+      room = f.room;
+    })
+
+-- of an unused page
+empty_page : (w : Words) (size p : ℕ) (live : List Extent) → w p ≡ 0 → live ≡ [] → PageIs w size p live
+empty_page w size p live none empty = record { free = []; unused = λ e. empty; holds = λ e. absurd (e none) }
+
+-- the last live block of the page goes
+pub last_goes : (pages after : Pages) (m new : Memory) (live : List Extent) (waiting : List ℕ) (page a n : ℕ) → HasBlocksBut pages m ((a, n) ∷ live) waiting page → BlockIn pages.page pages.count page a n → word_in m (page + 2) ≡ 1 → IsLowered pages after page → Clears (word_in m) (word_in new) page → IsInArenas m new → HasBlocks after new live waiting
+last_goes pages after m new live waiting page a n f b one low g s =
+    let size = pages.page in
     let wide : 64 ≤ size = f.blocks.size_low in
     let two : 2 ≤ n = b.wide in
     let from : page + 8 ≤ a = b.low in
     let upto : a + n ≤ page + size = b.high in
     let k = b.page.number in
     let at : page ≡ page_at size k = b.page.is in
-    let only : IsOnlyPage old now page size = λ e out. elim out [ inl x ↦ g.rest e (omega arith) (omega arith) (omega arith) (omega arith) | inr y ↦ g.rest e (omega arith) (omega arith) (omega arith) (omega arith) ] in
-    let u = used_page old size count a n page live f.blocks b in
-    let c : old (page + 2) ≡ length (blocks_of size page live) + 1 = u.holds.count ∙ omega arith in
-    let none : blocks_of size page live ≡ [] = length_none (blocks_of size page live) (omega arith) in
-    let is : PageIs now size page (blocks_of size page live) = record { free = []; unused = λ e. none; holds = λ e. absurd (e g.class) } in
-    let blocks : BlocksFit now size count live = fits_less old now size count k (a, n) [] live b.page.below f.blocks (omega arith) (omega arith)
-    (subst (λ (q : ℕ). PageIs now size q (blocks_of size q live)) at is)
-    (stays_elsewhere old now size count k (subst (λ (q : ℕ). (e : ℕ) → (e < q) ⊎ (q + size ≤ e) → now e ≡ old e) at only)) in
-    let lists : ListsFit now size count pages.heads.items waiting page = lists_inner old now size count pages.heads.items waiting page page wide f.lists b.page only (λ ne. absurd (ne refl)) in
-    let is_class : now (page_at size k) ≡ 0 = subst (λ (q : ℕ). now q ≡ 0) at g.class in
-    let classes : ClassesFit now size count pages.small pages.lowest = classes_one old now size count pages.small pages.lowest pages.lowest k f.classes (omega arith) (subst (λ (q : ℕ). (e : ℕ) → (e < q) ⊎ (q + size ≤ e) → now e ≡ old e) at only) wide (omega arith)
-    (λ below. absurd (let up : page_at size k + size ≤ page_at size pages.lowest = pages_part size k pages.lowest below in omega arith))
-    (subst (λ (q : ℕ). now (q + 7) ≡ old (q + 7)) at (g.rest (page + 7) (omega arith) (omega arith) (omega arith) (omega arith))) in
-    fits_new pages pages m new ((a, n) ∷ live) live waiting page page 0 f (only_same pages) s blocks classes lists
+    let u = used_page (word_in m) size pages.count a n page live f.blocks b in
+    let c : word_in m (page + 2) ≡ length (blocks_of size page live) + 1 = u.holds.count ∙ omega arith in
+    cleared_fits pages after m new ((a, n) ∷ live) live waiting page f b.page low g s
+    (fits_less (word_in m) (word_in new) size pages.count k (a, n) [] live b.page.below f.blocks (omega arith) (omega arith)
+    (subst (λ (q : ℕ). PageIs (word_in new) size q (blocks_of size q live)) at (empty_page (word_in new) size page (blocks_of size page live) g.class (length_none (blocks_of size page live) (omega arith))))
+    (stays_elsewhere (word_in m) (word_in new) size pages.count k (subst (λ (q : ℕ). (e : ℕ) → (e < q) ⊎ (q + size ≤ e) → word_in new e ≡ word_in m e) at (cleared_only (word_in m) (word_in new) size page wide g))))
+
+-- a page with no live block is cleared
+pub none_left : (pages after : Pages) (m new : Memory) (live : List Extent) (waiting : List ℕ) (page : ℕ) → HasBlocksBut pages m live waiting page → IsPage pages.page pages.count page → word_in m (page + 2) ≡ 0 → word_in m page ≢ 0 → IsLowered pages after page → Clears (word_in m) (word_in new) page → IsInArenas m new → HasBlocks after new live waiting
+none_left pages after m new live waiting page f is none used low g s =
+    let size = pages.page in
+    let wide : 64 ≤ size = f.blocks.size_low in
+    let k = is.number in
+    let at : page ≡ page_at size k = is.is in
+    let was : PageIs (word_in m) size page (blocks_of size page live) = subst (λ (r : ℕ). PageIs (word_in m) size r (blocks_of size r live)) (sym at) (f.blocks.pages k is.below) in
+    cleared_fits pages after m new live live waiting page f is low g s
+    (fits_one (word_in m) (word_in new) size pages.count k live live f.blocks
+    (subst (λ (r : ℕ). PageIs (word_in new) size r (blocks_of size r live)) at (empty_page (word_in new) size page (blocks_of size page live) g.class (length_none (blocks_of size page live) (sym (was.holds used).count ∙ none))))
+    (λ j other. refl)
+    (stays_elsewhere (word_in m) (word_in new) size pages.count k (subst (λ (q : ℕ). (e : ℕ) → (e < q) ⊎ (q + size ≤ e) → word_in new e ≡ word_in m e) at (cleared_only (word_in m) (word_in new) size page wide g))) f.blocks.inside f.blocks.apart)

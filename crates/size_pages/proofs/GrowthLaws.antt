@@ -6,20 +6,20 @@ use Rattle.std.specs.List.{filter}
 use Rattle.heap_space.specs.Places.{zeros_at}
 use Rattle.heap_space.specs.Memory.{Memory, with_arena}
 use Rattle.heap_space.specs.Order.{IsInOrder}
-use Rattle.heap_space.specs.Extents.{Extent, begins_between, extents_between, KeepsOutside}
-use Rattle.heap_space.proofs.Blocks.{length-zeros_at}
-use Rattle.heap_space.proofs.ExtentLaws.{extents-elsewhere, word_at-zeros, lies_within-with_block}
+use Rattle.heap_space.specs.Extents.{Extent, Each, begins_between, extents_between, KeepsOutside}
+use Rattle.heap_space.proofs.Blocks.{length-zeros_at, word_at-none}
+use Rattle.heap_space.proofs.ExtentLaws.{Each-map, extents-elsewhere, word_at-zeros, lies_within-with_block}
 use Rattle.size_pages.specs.PageWords.{Words, word_in, CanStore, IsInArenas}
-use Rattle.size_pages.specs.LiveBlocks.{page_at, BlocksFit, ClassesFit}
+use Rattle.size_pages.specs.LiveBlocks.{page_at, in_page, blocks_of, PageIs, IsInPages, BlocksFit, ClassesFit}
 use Rattle.size_pages.specs.PageLists.{EachPlace, IsIn, first_of_list, IsPage, list_number, list_of, IsListedRightly, ListsFit}
-use Rattle.size_pages.specs.HasBlocks.{HasBlocksBut, HasBlocks, Stands}
-use Rattle.size_pages.specs.Growth.{AllUsed, HasUnused, IsRaised, IsLowestUnused}
+use Rattle.size_pages.specs.HasBlocks.{HasBlocks, Stands}
+use Rattle.size_pages.specs.Growth.{AllUsed}
 use Rattle.size_pages.specs.Calls.{NoneHasRoom}
 use Rattle.size_pages.specs.declared.Pages.{Pages}
-use Rattle.size_pages.proofs.FitLaws.{pages_part}
-use Rattle.size_pages.proofs.ListMoves.{not_zero}
+use Rattle.size_pages.proofs.FitLaws.{pages_part, filter_skips, in_page_false}
+use Rattle.size_pages.proofs.ListMoves.{not_zero, right_unused}
 use Rattle.size_pages.proofs.FitsLaws.{page_mono, places_of}
-use Rattle.size_pages.proofs.EndLaws.{no_less, recounted_fits}
+use Rattle.size_pages.proofs.ListLaws.{places_map}
 
 funext : {A B : Type 0} {f g : A → B} → ((a : A) → f a ≡ g a) → f ≡ g
 funext h = λ i a. h a i
@@ -35,46 +35,114 @@ arena_words_same m o n b =
 arena_end : (size count per words : ℕ) → words ≡ size * per → page_at size count + words ≡ page_at size (count + per)
 arena_end size count per words e = grind arith
 
-new_page : (size count per words k : ℕ) → words ≡ size * per → count ≤ k → k < count + per → page_at size k + size ≤ page_at size count + words
-new_page size count per words k e low high =
-    let total = arena_end size count per words e in
-    let up : page_at size k + size ≤ page_at size (count + per) = pages_part size k (count + per) high in omega arith
+-- no block lies in a page beyond the last
+no_blocks : (size count k : ℕ) (live : List Extent) → count ≤ k → Each (IsInPages size count) live → blocks_of size (page_at size k) live ≡ []
+no_blocks size count k [] beyond all = refl
+no_blocks size count k (x ∷ xs) beyond all =
+    let i = all.0 in
+    let below : i.page < count = i.below in
+    let high : x.0 + x.1 ≤ page_at size i.page + size = i.high in
+    let two : 2 ≤ x.1 = i.wide in
+    let part : page_at size i.page + size ≤ page_at size k = pages_part size i.page k (omega arith) in
+    filter_skips (in_page size (page_at size k)) x xs (in_page_false size (page_at size k) x (inl (omega arith))) ∙ no_blocks size count k xs beyond all.1
 
-pub arena_fits : (pages : Pages) (m : Memory) → IsInOrder m → IsInOrder (with_arena m) → pages.count + pages.pages_per_arena ≤ vec_capacity pages.order → (live : List Extent) (waiting : List ℕ) → HasBlocks pages m live waiting → HasBlocksBut pages (with_arena m) live waiting 0 pages.pages_per_arena
-arena_fits pages m o n room live waiting f =
-    let size = pages.page in
-    let count = pages.count in
-    let per = pages.pages_per_arena in
-    let new = with_arena m in
-    let same = arena_words_same m o n in
-    let end : m.next_arena ≡ page_at size count = f.end ∙ ap (page_at size) (let e : count + 0 ≡ count = omega arith in e) in
-    let total : m.next_arena + m.arena_words ≡ page_at size (count + per) = ap (λ (k : ℕ). k + m.arena_words) end ∙ arena_end size count per m.arena_words f.arena_size in
-    let short : m.next_arena + m.arena_words ≤ 1099511627776 = n.arenas_end in
-    let some : 0 < m.arena_words = o.arena_some in
-    let base : 4294967296 ≤ m.next_arena = omega arith in
-    record {
-      size_high = f.size_high;
-      arena_low = f.arena_low;
-      arena_high = f.arena_high;
-      small_low = f.small_low;
-      small_high = f.small_high;
-      arena_size = f.arena_size;
-      end = total;
-      below = omega arith;
-      placed = λ k low. elim (cases_lt k count) [
-        | inl old ↦ lies_within-with_block m new 4294967296 m.next_arena (m.next_arena + m.arena_words) (zeros_at m.next_arena m.arena_words) (page_at size k) size refl (omega arith) (inr (f.placed k (omega arith)))
-        | inr more ↦ lies_within-with_block m new 4294967296 m.next_arena (m.next_arena + m.arena_words) (zeros_at m.next_arena m.arena_words) (page_at size k) size refl (omega arith)
-            (inl (let len : length (replicate m.arena_words 0) ≡ m.arena_words = length-zeros_at m.next_arena m.arena_words in let from : page_at size count ≤ page_at size k = page_mono size count k more in let upto = new_page size count per m.arena_words k f.arena_size more low in
-            (base, omega arith, omega arith, omega arith)))
-      ];
-      blocks = same_words (λ (w : Words). BlocksFit w size count live) (word_in m) (word_in new) same f.blocks;
-      classes = same_words (λ (w : Words). ClassesFit w size count pages.small pages.lowest) (word_in m) (word_in new) same f.classes;
-      lists = same_words (λ (w : Words). ListsFit w size count pages.heads.items waiting 0) (word_in m) (word_in new) same f.lists;
-      heads = f.heads;
-      waits = f.waits;
-      rising = f.rising;
-      room = room;
-    }
+page_grows : (size count n p : ℕ) → IsPage size count p → IsPage size (count + n) p
+page_grows size count n p i = let b : i.number < count = i.below in record { number = i.number; below = omega arith; is = i.is }
+
+-- the words of a header that are 0 in an unused page
+abbrev NoneIn : Words → ℕ → ℕ → Type 0
+NoneIn w size k = (i : ℕ) → i < 8 → w (page_at size k + i) ≡ 0
+
+-- so many pages more, which are unused
+module _ (w : Words) (size count n : ℕ) (none : (k : ℕ) → count ≤ k → k < count + n → NoneIn w size k) where
+  class_none : (k : ℕ) → count ≤ k → k < count + n → w (page_at size k) ≡ 0
+  class_none k low high = subst (λ (e : ℕ). w e ≡ 0) (omega arith) (none k low high 0 (omega arith))
+
+  more_blocks : (live : List Extent) → BlocksFit w size count live → BlocksFit w size (count + n) live
+  more_blocks live h = record {
+    size_low = h.size_low;
+    pages = λ k below. elim (cases_lt k count) [
+      | inl a ↦ h.pages k a
+      | inr b ↦ subst (λ (bs : List Extent). PageIs w size (page_at size k) bs) (sym (no_blocks size count k live b h.inside)) (record { free = []; unused = λ e. refl; holds = λ e. absurd (e (class_none k b below)) })
+    ];
+    inside = Each-map (IsInPages size count) (IsInPages size (count + n)) (λ x i. let b : i.page < count = i.below in record { page = i.page; below = omega arith; wide = i.wide; low = i.low; high = i.high }) live h.inside;
+    apart = h.apart;
+  }
+
+  more_classes : (most lowest : ℕ) → ClassesFit w size count most lowest → ClassesFit w size (count + n) most lowest
+  more_classes most lowest h = record {
+    small = λ k below. elim (cases_lt k count) [ inl a ↦ h.small k a | inr b ↦ subst (λ (c : ℕ). c ≤ most) (sym (class_none k b below)) (omega arith) ];
+    within = let i : lowest ≤ count = h.within in omega arith;
+    used = h.used;
+    last = λ k below. elim (cases_lt k count) [ inl a ↦ h.last k a | inr b ↦ none k b below 7 (omega arith) ];
+  }
+
+  more_lists : (heads waiting : List ℕ) → ListsFit w size count heads waiting 0 → ListsFit w size (count + n) heads waiting 0
+  more_lists heads waiting h = record {
+    lists = h.lists;
+    none = h.none;
+    waits = h.waits;
+    heads_are = h.heads_are;
+    linked = h.linked;
+    distinct = h.distinct;
+    pages = λ s. places_map (IsPage size count) (IsPage size (count + n)) (page_grows size count n) (h.lists s) (h.pages s);
+    right = h.right;
+    listed = λ k below used other. elim (cases_lt k count) [ inl a ↦ h.listed k a used other | inr b ↦ absurd (used (class_none k b below)) ];
+    rightly = λ k below other. elim (cases_lt k count) [ inl a ↦ h.rightly k a other | inr b ↦ right_unused w size (page_at size k) (class_none k b below) (none k b below 6 (omega arith)) ];
+  }
+
+-- an arena is added to pages
+module _ (pages : Pages) (m : Memory) (o : IsInOrder m) (n : IsInOrder (with_arena m)) (room : pages.count + pages.pages_per_arena ≤ vec_capacity pages.order) (long : 2 * pages.small + 2 ≤ length pages.heads.items) (live : List Extent) (waiting : List ℕ) (f : HasBlocks pages m live waiting) where
+  arena_total : m.next_arena + m.arena_words ≡ page_at pages.page (pages.count + pages.pages_per_arena)
+  arena_total = ap (λ (k : ℕ). k + m.arena_words) f.arenas.end ∙ arena_end pages.page pages.count pages.pages_per_arena m.arena_words f.setup.arena_size
+
+  -- its first page is unused
+  pub arena_unused : word_in m (page_at pages.page pages.count) ≡ 0
+  arena_unused =
+      let end : m.next_arena ≡ page_at pages.page pages.count = f.arenas.end in
+      let short : m.next_arena + m.arena_words ≤ 1099511627776 = n.arenas_end in
+      let some : 0 < m.arena_words = o.arena_some in
+      word_at-none m.blocks (page_at pages.page pages.count) (o.free (page_at pages.page pages.count) (omega arith) (omega arith))
+
+  pub arena_fits : HasBlocks (record pages { count = pages.count + pages.pages_per_arena }) (with_arena m) live waiting
+  arena_fits =
+      let size = pages.page in
+      let count = pages.count in
+      let per = pages.pages_per_arena in
+      let new = with_arena m in
+      let same = arena_words_same m o n in
+      let short : m.next_arena + m.arena_words ≤ 1099511627776 = n.arenas_end in
+      let some : 0 < m.arena_words = o.arena_some in
+      let end : m.next_arena ≡ page_at size count = f.arenas.end in
+      let total = arena_total in
+      let wide : 64 ≤ size = f.blocks.size_low in
+      let none : (k : ℕ) → count ≤ k → k < count + per → NoneIn (word_in m) size k = λ k low high i small.
+      let base : page_at size count ≤ page_at size k = page_mono size count k low in
+      let part : page_at size k + size ≤ page_at size (count + per) = pages_part size k (count + per) high in
+      word_at-none m.blocks (page_at size k + i) (o.free (page_at size k + i) (omega arith) (omega arith)) in
+      record {
+        setup = f.setup;
+        arenas = record {
+          end = total;
+          below = omega arith;
+          placed = λ k low. elim (cases_lt k count) [
+            | inl old ↦ lies_within-with_block m new 4294967296 m.next_arena (m.next_arena + m.arena_words) (zeros_at m.next_arena m.arena_words) (page_at size k) size refl (omega arith) (inr (f.arenas.placed k old))
+            | inr more ↦ lies_within-with_block m new 4294967296 m.next_arena (m.next_arena + m.arena_words) (zeros_at m.next_arena m.arena_words) (page_at size k) size refl (omega arith)
+                (inl (let len : length (replicate m.arena_words 0) ≡ m.arena_words = length-zeros_at m.next_arena m.arena_words in
+                let base : 4294967296 ≤ m.next_arena = omega arith in
+                let from : page_at size count ≤ page_at size k = page_mono size count k more in
+                let upto : page_at size k + size ≤ page_at size (count + per) = pages_part size k (count + per) low in
+                (base, omega arith, omega arith, omega arith)))
+          ];
+        };
+        blocks = same_words (λ (w : Words). BlocksFit w size (count + per) live) (word_in m) (word_in new) same (more_blocks (word_in m) size count per none live f.blocks);
+        classes = same_words (λ (w : Words). ClassesFit w size (count + per) pages.small pages.lowest) (word_in m) (word_in new) same (more_classes (word_in m) size count per none pages.small pages.lowest f.classes);
+        lists = same_words (λ (w : Words). ListsFit w size (count + per) pages.heads.items waiting 0) (word_in m) (word_in new) same (more_lists (word_in m) size count per none pages.heads.items waiting f.lists);
+        heads = λ some. long;
+        waits = f.waits;
+        rising = f.rising;
+        room = room;
+      }
 
 pub arenas_outside : (m new : Memory) → IsInArenas m new → KeepsOutside 4294967296 1099511627776 m new
 arenas_outside m new s =
@@ -107,43 +175,6 @@ none_first : (size count : ℕ) (xs : List ℕ) (p : ℕ) → EachPlace (IsPage 
 none_first size count [] p all z i = i
 none_first size count (x ∷ xs) p all z i = not_zero size count x all.0 z
 
-kind_zero : (kind class : ℕ) → class ≡ 0 → (kind ≢ 0 → 2 ≤ class) → kind ≡ 0
-kind_zero kind class z used = elim (eqb_tells kind 0) [ inl a ↦ a.1 | inr b ↦ absurd (let two : 2 ≤ class = used b.1 in omega arith) ]
-
--- where no list of unused pages is, no page is unused
-pub all_used : (pages : Pages) (m : Memory) (live : List Extent) (waiting : List ℕ) → HasBlocks pages m live waiting → slice_index pages.heads.items 0 ≡ 0 → AllUsed (word_in m) pages.page pages.count
-all_used pages m live waiting f none k below unused =
-    let size = pages.page in
-    let p = page_at size k in
-    let w = word_in m in
-    let right : IsListedRightly w size p = f.lists.rightly k below (omega arith) in
-    let kind : w (p + 6) ≡ 0 = kind_zero (w (p + 6)) (w p) unused right.used in
-    let s : list_of w p ≡ 0 = ap (λ (t : ℕ). list_number t (w p)) kind in
-    none_first size pages.count (f.lists.lists 0) p (f.lists.pages 0) (sym (f.lists.heads_are 0) ∙ none)
-    (subst (λ (t : ℕ). IsIn p (f.lists.lists t)) s (f.lists.listed k below (omega arith)))
-
-first_some : (xs : List ℕ) (P : ℕ → Type 0) → first_of_list xs ≢ 0 → EachPlace P xs → P (first_of_list xs)
-first_some [] P n all = absurd (n refl)
-first_some (x ∷ xs) P n all = all.0
-
-kind_of_zero : (kind class : ℕ) → kind ≤ 3 → (kind ≢ 0 → 2 ≤ class) → list_number kind class ≡ 0 → kind ≡ 0
-kind_of_zero kind class high used e = grind (arith, nat_tests)
-
--- and else some page is
-pub has_unused : (pages : Pages) (m : Memory) (live : List Extent) (waiting : List ℕ) → HasBlocks pages m live waiting → slice_index pages.heads.items 0 ≢ 0 → HasUnused (word_in m) pages.page pages.count
-has_unused pages m live waiting f some =
-    let size = pages.page in
-    let w = word_in m in
-    let xs = f.lists.lists 0 in
-    let n : first_of_list xs ≢ 0 = λ e. some (f.lists.heads_are 0 ∙ e) in
-    let is : IsPage size pages.count (first_of_list xs) = first_some xs (IsPage size pages.count) n (f.lists.pages 0) in
-    let on : (list_of w (first_of_list xs) ≡ 0) × (first_of_list xs ≢ 0) = first_some xs (λ p. (list_of w p ≡ 0) × (p ≢ 0)) n (f.lists.right 0) in
-    let p = page_at size is.number in
-    let at : first_of_list xs ≡ p = is.is in
-    let right : IsListedRightly w size p = f.lists.rightly is.number is.below (omega arith) in
-    let s : list_of w p ≡ 0 = ap (list_of w) (sym at) ∙ on.0 in
-    record { number = is.number; below = is.below; unused = right.unused (kind_of_zero (w (p + 6)) (w p) right.known right.used s) }
-
 kind_with_room : (kind class n : ℕ) → 2 ≤ n → class ≡ n → kind ≤ 3 → kind ≢ 3 → kind ≢ 2 → (kind ≡ 0 → class ≡ 0) → list_number kind class ≡ 2 * n
 kind_with_room kind class n two e high no3 no2 zero_ = grind (arith, nat_tests)
 
@@ -156,18 +187,15 @@ none_has_room pages m n live waiting f two none k below class no3 room =
     let right : IsListedRightly w size p = f.lists.rightly k below (omega arith) in
     let no2 : w (p + 6) ≢ 2 = λ e. let full = right.full e in elim room [ inl a ↦ a full.0 | inr b ↦ omega (arith, full.1, b) ] in
     let s : list_of w p ≡ 2 * n = kind_with_room (w (p + 6)) (w p) n two class right.known no3 no2 right.unused in
+    let used : w p ≢ 0 = λ z. omega (arith, z, class, two) in
     none_first size pages.count (f.lists.lists (2 * n)) p (f.lists.pages (2 * n)) (sym (f.lists.heads_are (2 * n)) ∙ none)
-    (subst (λ (t : ℕ). IsIn p (f.lists.lists t)) s (f.lists.listed k below (omega arith)))
+    (subst (λ (t : ℕ). IsIn p (f.lists.lists t)) s (f.lists.listed k below used (omega arith)))
 
 pub used_more : (w : Words) (size k : ℕ) → AllUsed w size k → w (page_at size k) ≢ 0 → AllUsed w size (k + 1)
 used_more w size k all n j below = elim (eqb_tells j k) [
   | inl a ↦ subst (λ (i : ℕ). w (page_at size i) ≢ 0) (sym a.1) n
   | inr b ↦ all j (let d : j ≢ k = b.1 in omega arith)
 ]
-
--- where the pages below k are in use, and some page is unused, k is the number of a page
-pub below_unused : (w : Words) (size count k : ℕ) → AllUsed w size k → HasUnused w size count → k < count
-below_unused w size count k all u = elim (cases_lt u.number k) [ inl a ↦ absurd (all u.number a u.unused) | inr b ↦ (let low : u.number < count = u.below in omega arith) ]
 
 pub page_can : (pages : Pages) (m : Memory) (k : ℕ) → Stands pages m → k < pages.count → CanStore m (page_at pages.page k)
 page_can pages m k s below =
@@ -178,17 +206,3 @@ page_can pages m k s below =
 
 pub product_fits : (size k : ℕ) → page_at size k < 1099511627776 → k * size < 2 ^ 64
 product_fits size k h = omega arith
-
--- the search for unused pages begins at the page
-pub raised_fits : (pages after : Pages) (m : Memory) (page : ℕ) → IsRaised pages after page → IsLowestUnused (word_in m) pages.page pages.count page → (live : List Extent) (waiting : List ℕ) → HasBlocks pages m live waiting → HasBlocks after m live waiting
-raised_fits pages after m page r low live waiting f =
-    let size = pages.page in
-    let wide : 64 ≤ size = f.blocks.size_low in
-    let number : low.is_page.number < pages.count = low.is_page.below in
-    let same : page_at size after.lowest ≡ page_at size low.is_page.number = sym r.lowest ∙ low.is_page.is in
-    let up : after.lowest ≤ low.is_page.number = elim (cases_lt low.is_page.number after.lowest) [
-      | inl a ↦ absurd (let part : page_at size low.is_page.number + size ≤ page_at size after.lowest = pages_part size low.is_page.number after.lowest a in omega arith)
-      | inr b ↦ b
-    ] in
-    recounted_fits pages after m live waiting 0 0 (record { sizes = r.sizes; count = r.count; waiting = r.waiting; heads = r.heads; room = no_less pages after r.order })
-    (record { small = f.classes.small; within = omega arith; used = λ k below. low.lower k (omega arith); last = f.classes.last }) f

@@ -8,7 +8,7 @@ use Rattle.size_pages.specs.PageWords.{word_in, IsInArenas, GivesBack, Starts, C
 use Rattle.size_pages.specs.LiveBlocks.{page_at, IsInPages}
 use Rattle.size_pages.specs.PageLists.{first_of_list, IsPage, Unlinks, Links}
 use Rattle.size_pages.specs.HasBlocks.{HasBlocksBut, HasBlocks}
-use Rattle.size_pages.specs.Steps.{CanTakeOff, CanTakeUnlisted}
+use Rattle.size_pages.specs.Steps.{CanTakeOff, CanTakeFrom, CanTakeUnlisted}
 use Rattle.size_pages.specs.declared.Pages.{Pages}
 use Rattle.size_pages.proofs.FitLaws.{pages_apart}
 use Rattle.size_pages.proofs.ListMoves.{not_zero, first_page}
@@ -58,14 +58,14 @@ pub keeps_on : (pages : Pages) (after : List ℕ) (m new : Memory) (page list : 
 keeps_on pages after m new page list c u live waiting f =
     let size = pages.page in
     let count = pages.count in
-    let b = beside (word_in m) size count page list pages.heads.items waiting 0 f.lists c.is_page (not_zero size count page c.is_page) c.is_list in
+    let b = beside (word_in m) size count page list pages.heads.items waiting 0 f.lists c.is_page (not_zero size count page c.is_page) c.is_list c.some in
     keeps_at m new size count live f.blocks.inside (λ e at. u.rest e (no_header size count e (word_in m (page + 5)) 4 at b.before (omega arith)) (no_header size count e (word_in m (page + 4)) 5 at b.next (omega arith)))
 
 pub off_keeps : (pages : Pages) (after : List ℕ) (m new : Memory) (page list : ℕ) → CanTakeOff pages m page list → Unlinks (word_in m) (word_in new) pages.heads.items after page list → (live : List Extent) (waiting : List ℕ) → HasBlocks pages m live waiting → KeepsWords m new live
 off_keeps pages after m new page list c u live waiting f = keeps_on pages after m new page list (on_list c) u live waiting f
 
-pub links_keep : (pages : Pages) (after : List ℕ) (m new : Memory) (page list kind : ℕ) (live : List Extent) (waiting : List ℕ) (spare : ℕ) → IsPage pages.page pages.count page → Links (word_in m) (word_in new) pages.heads.items after page list kind → HasBlocksBut pages m live waiting page spare → KeepsWords m new live
-links_keep pages after m new page list kind live waiting spare is_page u f =
+pub links_keep : (pages : Pages) (after : List ℕ) (m new : Memory) (page list kind : ℕ) (live : List Extent) (waiting : List ℕ) → IsPage pages.page pages.count page → Links (word_in m) (word_in new) pages.heads.items after page list kind → HasBlocksBut pages m live waiting page → KeepsWords m new live
+links_keep pages after m new page list kind live waiting is_page u f =
     let size = pages.page in
     let count = pages.count in
     let next = slice_index pages.heads.items list in
@@ -76,12 +76,12 @@ links_keep pages after m new page list kind live waiting spare is_page u f =
 inside_apart : (x y : Extent) (e : ℕ) → 0 < x.1 → IsApart x y → IsInside y e → e ≢ x.0
 inside_apart x y e some a h = elim a [ inl p ↦ (λ same. omega (arith, same, h.0)) | inr q ↦ (λ same. omega (arith, same, h.1)) ]
 
-pub taken_keeps : (pages : Pages) (m new : Memory) (page n x : ℕ) → CanTakeUnlisted pages m page n → Taken (word_in m) (word_in new) page n x → IsInArenas m new → (live : List Extent) (waiting : List ℕ) (spare : ℕ) → HasBlocksBut pages m live waiting page spare → KeepsWords m new live
-taken_keeps pages m new page n x c t s live waiting spare f =
+pub taken_kept : {except : ℕ} (pages : Pages) (m new : Memory) (page n x : ℕ) → CanTakeFrom pages m except page n → Taken (word_in m) (word_in new) page n x
+    → (live : List Extent) (waiting : List ℕ) → HasBlocksBut pages m live waiting except → HasBlocksBut pages new ((x, n) ∷ live) waiting except → KeepsWords m new live
+taken_kept pages m new page n x c t live waiting f after =
     let size = pages.page in
     let count = pages.count in
     let two : 2 ≤ n = c.low in
-    let after = taken_fits pages m new page n x c t s live waiting spare f in
     Each-both (IsInPages size count) (IsApart (x, n)) (λ y. (e : ℕ) → IsInside y e → word_in new e ≡ word_in m e) (λ y is apart e i.
     let at = at_block size count e y is i in
     let away : e ≢ x = inside_apart (x, n) y e (omega arith) apart i in
@@ -91,26 +91,30 @@ taken_keeps pages m new page n x c t s live waiting spare f =
       | inr z ↦ (t.chained z.1).rest e (head 1 (omega arith)) (head 2 (omega arith)) (head 2 (omega arith)) away
     ]) live f.blocks.inside after.blocks.apart.0
 
+pub taken_keeps : (pages : Pages) (m new : Memory) (page n x : ℕ) → CanTakeUnlisted pages m page n → Taken (word_in m) (word_in new) page n x → IsInArenas m new → (live : List Extent) (waiting : List ℕ) → HasBlocksBut pages m live waiting page → KeepsWords m new live
+taken_keeps pages m new page n x c t s live waiting f = taken_kept pages m new page n x c t live waiting f (taken_fits pages m new page n x c t s live waiting f)
+
 pub taken_clear : (m new : Memory) (page n x : ℕ) → Taken (word_in m) (word_in new) page n x → word_in new x ≡ 0
 taken_clear m new page n x t = elim (eqb_tells (word_in m (page + 1)) 0) [ inl z ↦ (t.fresh z.1).cleared | inr y ↦ (t.chained y.1).cleared ]
 
-pub started_keeps : (pages : Pages) (m new : Memory) (page n except spare : ℕ) → IsPage pages.page pages.count page → Starts (word_in m) (word_in new) page n → (live : List Extent) (waiting : List ℕ) → HasBlocksBut pages m live waiting except spare → KeepsWords m new live
-started_keeps pages m new page n except spare is g live waiting f =
+pub started_keeps : (pages : Pages) (m new : Memory) (page n except : ℕ) → IsPage pages.page pages.count page → Starts (word_in m) (word_in new) page n → (live : List Extent) (waiting : List ℕ) → HasBlocksBut pages m live waiting except → KeepsWords m new live
+started_keeps pages m new page n except is g live waiting f =
     let size = pages.page in
     keeps_at m new size pages.count live f.blocks.inside (λ e at.
     let zero_ : e ≢ page + 0 = no_header size pages.count e page 0 at (inr is) (omega arith) in
     g.rest e (omega arith) (no_header size pages.count e page 1 at (inr is) (omega arith)) (no_header size pages.count e page 2 at (inr is) (omega arith)) (no_header size pages.count e page 3 at (inr is) (omega arith)))
 
-pub cleared_keeps : (pages : Pages) (m new : Memory) (page except spare : ℕ) → IsPage pages.page pages.count page → Clears (word_in m) (word_in new) page → (live : List Extent) (waiting : List ℕ) → HasBlocksBut pages m live waiting except spare → KeepsWords m new live
-cleared_keeps pages m new page except spare is g live waiting f =
+pub cleared_keeps : (pages : Pages) (m new : Memory) (page except : ℕ) → IsPage pages.page pages.count page → Clears (word_in m) (word_in new) page → (live : List Extent) (waiting : List ℕ) → HasBlocksBut pages m live waiting except → KeepsWords m new live
+cleared_keeps pages m new page except is g live waiting f =
     let size = pages.page in
     keeps_at m new size pages.count live f.blocks.inside (λ e at.
     let zero_ : e ≢ page + 0 = no_header size pages.count e page 0 at (inr is) (omega arith) in
-    g.rest e (omega arith) (no_header size pages.count e page 1 at (inr is) (omega arith)) (no_header size pages.count e page 2 at (inr is) (omega arith)) (no_header size pages.count e page 3 at (inr is) (omega arith)))
+    let word : (i : ℕ) → i < 8 → e ≢ page + i = λ i small. no_header size pages.count e page i at (inr is) small in
+    g.rest e (word 6 (omega arith)) (omega arith) (word 1 (omega arith)) (word 2 (omega arith)) (word 3 (omega arith)))
 
 -- a block that goes on the chain changes no word of another
-pub given_keeps : (pages : Pages) (m new : Memory) (page a n except spare : ℕ) → 2 ≤ n → IsPage pages.page pages.count page → GivesBack (word_in m) (word_in new) page a → (live : List Extent) (waiting : List ℕ) → HasBlocksBut pages m ((a, n) ∷ live) waiting except spare → KeepsWords m new live
-given_keeps pages m new page a n except spare two is g live waiting f =
+pub given_keeps : (pages : Pages) (m new : Memory) (page a n except : ℕ) → 2 ≤ n → IsPage pages.page pages.count page → GivesBack (word_in m) (word_in new) page a → (live : List Extent) (waiting : List ℕ) → HasBlocksBut pages m ((a, n) ∷ live) waiting except → KeepsWords m new live
+given_keeps pages m new page a n except two is g live waiting f =
     let size = pages.page in
     Each-both (IsInPages size pages.count) (IsApart (a, n)) (λ y. (e : ℕ) → IsInside y e → word_in new e ≡ word_in m e) (λ y inside apart e i.
     let at = at_block size pages.count e y inside i in

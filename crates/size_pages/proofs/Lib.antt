@@ -17,6 +17,7 @@ pub mod AroundLaws
 pub mod GrowLaws
 pub mod BeginLaws
 pub mod ChoiceLaws
+pub mod ListedLaws
 pub mod FrameLaws
 pub mod OrderLaws
 pub mod ObjectLaws

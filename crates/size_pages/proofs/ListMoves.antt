@@ -1,5 +1,5 @@
 -- A page leaves its list, changes, and goes on another.
-use Rattle.std.proofs.Common.{◌≡◌, ◌≢◌, ℕ, ◌+◌, ◌<◌, ◌≤◌, ◌⊎◌, inl, inr, cond, ◌==◌, List, [], ◌∷◌, ◌++◌, slice_index, arith, refl, sym, ◌∙◌, ap, subst}
+use Rattle.std.proofs.Common.{◌≡◌, ◌≢◌, ℕ, ◌+◌, ◌<◌, ◌≤◌, ◌⊎◌, inl, inr, cond, ◌==◌, List, [], ◌∷◌, ◌++◌, length, length-append, slice_index, arith, refl, sym, ◌∙◌, ap, subst}
 use Rattle.std.proofs.lemmas.Bool.Decides.{eqb_tells, nat_tests}
 use Rattle.size_pages.specs.PageWords.{Words}
 use Rattle.size_pages.specs.LiveBlocks.{page_at}
@@ -36,6 +36,9 @@ page_words size count x y i j wide px py si sj n e =
           ]
     ]
 
+pub not_zero : (size count x : ℕ) → IsPage size count x → x ≢ 0
+not_zero size count x px e = let at : x ≡ page_at size px.number = px.is in omega arith
+
 pub first_page : (size count : ℕ) (xs : List ℕ) → EachPlace (IsPage size count) xs → (first_of_list xs ≡ 0) ⊎ IsPage size count (first_of_list xs)
 first_page size count [] all = inl refl
 first_page size count (x ∷ xs) all = inr all.0
@@ -62,6 +65,16 @@ right_words kind old new size p class chain count fresh h = record {
   busy = λ e. let some : 0 < old (p + 2) = h.busy e in omega arith;
 }
 
+-- from the words of a header but its links
+pub signs_from : (old new : Words) (p : ℕ) → ((i : ℕ) → i < 8 → i ≢ 4 → i ≢ 5 → new (p + i) ≡ old (p + i)) → SameSigns old new p
+signs_from old new p word = record {
+  class = subst (λ (e : ℕ). new e ≡ old e) (omega arith) (word 0 (omega arith) (omega arith) (omega arith));
+  chain = word 1 (omega arith) (omega arith) (omega arith);
+  count = word 2 (omega arith) (omega arith) (omega arith);
+  fresh = word 3 (omega arith) (omega arith) (omega arith);
+  kind = word 6 (omega arith) (omega arith) (omega arith);
+}
+
 pub right_same : (kind : ℕ) (old new : Words) (size p : ℕ) → SameSigns old new p → IsRight kind old size p → IsRight kind new size p
 right_same kind old new size p s h = right_words kind old new size p s.class s.chain s.count s.fresh h
 
@@ -82,6 +95,59 @@ first_has P (b ∷ bs) rest p z all = first_has P bs rest p z all.1
 head_without : (p before next head after : ℕ) (bs rest : List ℕ) → EachPlace (λ x. 0 < x) (bs ++ p ∷ rest) → before ≡ last_or 0 bs → next ≡ first_of_list rest → head ≡ first_of_list (bs ++ p ∷ rest) → (before ≡ 0 → after ≡ next) → (before ≢ 0 → after ≡ head) → after ≡ first_of_list (bs ++ rest)
 head_without p before next head after [] rest some is_before is_next is_head a b = a is_before ∙ is_next
 head_without p before next head after (b ∷ bs) rest some is_before is_next is_head f g = g (λ e. let z : 0 < last_or b bs = last_has (λ x. 0 < x) b bs (p ∷ rest) some.0 some.1 in omega arith) ∙ is_head
+
+-- a page that has no class is on no list
+pub kind_none : (kind class : ℕ) → class ≡ 0 → (kind ≢ 0 → 2 ≤ class) → kind ≡ 0
+kind_none kind class z used = elim (eqb_tells kind 0) [ inl a ↦ a.1 | inr b ↦ absurd (let two : 2 ≤ class = used b.1 in omega arith) ]
+
+pub right_unused : (w : Words) (size p : ℕ) → w p ≡ 0 → w (p + 6) ≡ 0 → IsListedRightly w size p
+right_unused w size p none kind = record { known = omega (arith, kind); unused = λ e. none; used = λ e. absurd (e kind); room = λ e. absurd (omega (arith, e, kind)); full = λ e. absurd (omega (arith, e, kind)); busy = λ e. absurd (omega (arith, e, kind)) }
+
+unused_list : (w : Words) (size p : ℕ) → IsListedRightly w size p → w p ≡ 0 → list_of w p ≡ 0
+unused_list w size p right z = ap (λ (t : ℕ). list_number t (w p)) (kind_none (w (p + 6)) (w p) z right.used)
+
+-- a page on a list is in use
+pub used_list : (w : Words) (size p s : ℕ) → IsListedRightly w size p → s ≡ list_of w p → s ≢ 0 → w p ≢ 0
+used_list w size p s right is some z = some (is ∙ unused_list w size p right z)
+
+-- a page that was on no list for the moment is unused
+pub lists_unused : (w : Words) (size count : ℕ) (heads waiting : List ℕ) (p : ℕ) → ListsFit w size count heads waiting p → w p ≡ 0 → w (p + 6) ≡ 0 → ListsFit w size count heads waiting 0
+lists_unused w size count heads waiting p h none kind = record {
+  lists = h.lists;
+  none = h.none;
+  waits = h.waits;
+  heads_are = h.heads_are;
+  linked = h.linked;
+  distinct = h.distinct;
+  pages = h.pages;
+  right = λ s. places_both (IsPage size count) (λ q. (list_of w q ≡ s) × (q ≢ p)) (λ q. (list_of w q ≡ s) × (q ≢ 0)) (λ q a r. (r.0, not_zero size count q a)) (h.lists s) (h.pages s) (h.right s);
+  listed = λ k below used n. h.listed k below used (λ e. used (ap w e ∙ none));
+  rightly = λ k below n. elim (eqb_tells (page_at size k) p) [
+    | inl a ↦ subst (λ (q : ℕ). IsListedRightly w size q) (sym a.1) (right_unused w size p none kind)
+    | inr b ↦ h.rightly k below b.1
+  ];
+}
+
+-- an unused page is on no list
+pub lists_hold : (w : Words) (size count : ℕ) (heads waiting : List ℕ) (k : ℕ) → k < count → ListsFit w size count heads waiting 0 → w (page_at size k) ≡ 0 → ListsFit w size count heads waiting (page_at size k)
+lists_hold w size count heads waiting k below h unused =
+    let p = page_at size k in
+    let zero_ : list_of w p ≡ 0 = unused_list w size p (h.rightly k below (omega arith)) unused in
+    record {
+      lists = h.lists;
+      none = h.none;
+      waits = h.waits;
+      heads_are = h.heads_are;
+      linked = h.linked;
+      distinct = h.distinct;
+      pages = h.pages;
+      right = λ s. elim (eqb_tells s 0) [
+        | inl a ↦ subst (EachPlace (λ q. (list_of w q ≡ s) × (q ≢ p))) (sym (ap h.lists a.1 ∙ h.none)) tt
+        | inr b ↦ places_map (λ q. (list_of w q ≡ s) × (q ≢ 0)) (λ q. (list_of w q ≡ s) × (q ≢ p)) (λ q r. (r.0, λ e. b.1 (sym r.0 ∙ ap (list_of w) e ∙ zero_))) (h.lists s) (h.right s)
+      ];
+      listed = λ j low used n. h.listed j low used (omega arith);
+      rightly = λ j low n. h.rightly j low (omega arith);
+    }
 
 -- p leaves the list s
 pub lists_unlink_any : (old new : Words) (size count : ℕ) (heads after waiting waiting2 : List ℕ) (k s : ℕ) (h : ListsFit old size count heads waiting 0) (cut : Cut (page_at size k) (h.lists s)) → 64 ≤ size → k < count → (s ≡ 1 → waiting2 ≡ cut.front ++ cut.behind) → (s ≢ 1 → waiting2 ≡ waiting) → s ≡ list_of old (page_at size k) → Unlinks old new heads after (page_at size k) s → ListsFit new size count after waiting2 (page_at size k)
@@ -107,13 +173,7 @@ lists_unlink_any old new size count heads after waiting waiting2 k s h cut wide 
       λ n. u.rest (x + 4) (omega arith) (page_words size count x next 4 5 wide px next_page (omega arith) (omega arith) (omega arith)),
       λ n. u.rest (x + 5) (page_words size count x before 5 4 wide px before_page (omega arith) (omega arith) (omega arith)) (omega arith),
     ) in
-    let signs : (x : ℕ) → IsPage size count x → SameSigns old new x = λ x px. record {
-      class = subst (λ (e : ℕ). new e ≡ old e) (omega arith) (word x 0 px (omega arith) (omega arith) (omega arith));
-      chain = word x 1 px (omega arith) (omega arith) (omega arith);
-      count = word x 2 px (omega arith) (omega arith) (omega arith);
-      fresh = word x 3 px (omega arith) (omega arith) (omega arith);
-      kind = word x 6 px (omega arith) (omega arith) (omega arith);
-    } in
+    let signs : (x : ℕ) → IsPage size count x → SameSigns old new x = λ x px. signs_from old new x (λ i small n4 n5. word x i px small n4 n5) in
     let same : (x : ℕ) → IsPage size count x → list_of new x ≡ list_of old x = λ x px. same_list old new x (signs x px).class (signs x px).kind in
     let signed : EachPlace (λ y. (y ≡ 0) ⊎ (list_of old y ≡ s)) (bs ++ p ∷ rest) = places_map (λ q. (list_of old q ≡ s) × (q ≢ 0)) (λ y. (y ≡ 0) ⊎ (list_of old y ≡ s)) (λ y r. inr r.0) (bs ++ p ∷ rest) right in
     let before_sign : (before ≡ 0) ⊎ (list_of old before ≡ s) = subst (λ (y : ℕ). (y ≡ 0) ⊎ (list_of old y ≡ s)) (sym is_before) (last_has (λ y. (y ≡ 0) ⊎ (list_of old y ≡ s)) 0 bs (p ∷ rest) (inl refl) signed) in
@@ -121,6 +181,7 @@ lists_unlink_any old new size count heads after waiting waiting2 k s h cut wide 
     let differs : (t x y : ℕ) → t ≢ s → (list_of old x ≡ t) × (x ≢ 0) → (y ≡ 0) ⊎ (list_of old y ≡ s) → x ≢ y = λ t x y n r sign e. elim sign [ inl z ↦ r.1 (e ∙ z) | inr q ↦ n (sym r.0 ∙ ap (list_of old) e ∙ q) ] in
     record {
       lists = updated h.lists s (bs ++ rest);
+      none = updated_by (λ t xs. t ≡ 0 → xs ≡ []) h.lists s (bs ++ rest) (λ z. absurd (let e : length (bs ++ p ∷ rest) ≡ 0 = ap length (sym cut.is ∙ ap h.lists z ∙ h.none) in omega (arith, e, length-append bs (p ∷ rest)))) (λ t n z. ap h.lists z ∙ h.none) 0 refl;
       waits = elim (eqb_tells 1 s) [
         | inl a ↦ updated_here h.lists s (bs ++ rest) 1 a.1 ∙ sym (on_waiting (sym a.1))
         | inr b ↦ updated_else h.lists s (bs ++ rest) 1 b.1 ∙ h.waits ∙ sym (not_waiting (λ e. b.1 (sym e)))
@@ -144,10 +205,10 @@ lists_unlink_any old new size count heads after waiting waiting2 k s h cut wide 
           (places_both (IsPage size count) (λ q. (list_of old q ≡ s) × (q ≢ 0)) (λ q. IsPage size count q × (list_of old q ≡ s) × (q ≢ 0)) (λ q a r. (a, r.0, r.1)) (bs ++ rest) others (places_without (λ q. (list_of old q ≡ s) × (q ≢ 0)) bs rest p right))
           (distinct_other bs rest p apart))
           (λ t n. places_both (IsPage size count) (λ q. (list_of old q ≡ t) × (q ≢ 0)) (λ q. (list_of new q ≡ t) × (q ≢ p)) (λ q a r. (same q a ∙ r.0, differs t q p n r (inr (sym is_s)))) (h.lists t) (h.pages t) (h.right t));
-      listed = λ j low n.
+      listed = λ j low used n.
           let q = page_at size j in
-          let was : IsIn q (h.lists (list_of old q)) = h.listed j low (omega arith) in
           let is_page : IsPage size count q = record { number = j; below = low; is = refl } in
+          let was : IsIn q (h.lists (list_of old q)) = h.listed j low (λ z. used ((signs q is_page).class ∙ z)) (omega arith) in
           subst (λ (t : ℕ). IsIn q (updated h.lists s (bs ++ rest) t)) (sym (same q is_page))
           (updated_by (λ t xs. list_of old q ≡ t → IsIn q xs) h.lists s (bs ++ rest)
           (λ e. still_in q p bs rest n (subst (λ (ys : List ℕ). IsIn q ys) cut.is (subst (λ (t : ℕ). IsIn q (h.lists t)) e was)))
@@ -155,11 +216,16 @@ lists_unlink_any old new size count heads after waiting waiting2 k s h cut wide 
       rightly = λ j low n. rightly_same old new size (page_at size j) (signs (page_at size j) (record { number = j; below = low; is = refl })) (h.rightly j low (omega arith));
     }
 
-pub lists_unlink : (old new : Words) (size count : ℕ) (heads after waiting : List ℕ) (k s : ℕ) → 64 ≤ size → k < count → s ≢ 1 → s ≡ list_of old (page_at size k) → ListsFit old size count heads waiting 0 → Unlinks old new heads after (page_at size k) s → ListsFit new size count after waiting (page_at size k)
-lists_unlink old new size count heads after waiting k s wide below not_waiting is_s h u =
+-- a page leaves its list: of the waiting pages, where it is one, the first
+pub lists_unlink : (old new : Words) (size count : ℕ) (heads after waiting waiting2 : List ℕ) (k s : ℕ) → 64 ≤ size → k < count → s ≢ 0 → (s ≡ 1 → waiting ≡ page_at size k ∷ waiting2) → (s ≢ 1 → waiting2 ≡ waiting) → s ≡ list_of old (page_at size k) → ListsFit old size count heads waiting 0 → Unlinks old new heads after (page_at size k) s → ListsFit new size count after waiting2 (page_at size k)
+lists_unlink old new size count heads after waiting waiting2 k s wide below some first others is_s h u =
     let p = page_at size k in
-    let in_s : IsIn p (h.lists s) = subst (λ (t : ℕ). IsIn p (h.lists t)) (sym is_s) (h.listed k below (omega arith)) in
-    lists_unlink_any old new size count heads after waiting waiting k s h (cut_at p (h.lists s) in_s) wide below (λ e. absurd (not_waiting e)) (λ e. refl) is_s u
+    let used : old p ≢ 0 = used_list old size p s (h.rightly k below (omega arith)) is_s some in
+    let in_s : IsIn p (h.lists s) = subst (λ (t : ℕ). IsIn p (h.lists t)) (sym is_s) (h.listed k below used (omega arith)) in
+    elim (eqb_tells s 1) [
+      | inl a ↦ lists_unlink_any old new size count heads after waiting waiting2 k s h (record { front = []; behind = waiting2; is = ap h.lists a.1 ∙ h.waits ∙ first a.1 }) wide below (λ e. refl) others is_s u
+      | inr b ↦ lists_unlink_any old new size count heads after waiting waiting2 k s h (cut_at p (h.lists s) in_s) wide below (λ e. absurd (b.1 e)) others is_s u
+    ]
 
 linked_same : (old new : Words) (at : ℕ) (xs : List ℕ) → EachPlace (λ x. (new (x + 4) ≡ old (x + 4)) × (new (x + 5) ≡ old (x + 5))) xs → Linked old at xs → Linked new at xs
 linked_same old new at [] same h = tt
@@ -176,6 +242,7 @@ pub record SameLinks (old new : Words) (x : ℕ) : Type 0 where
 pub lists_frame : (old new : Words) (size count : ℕ) (heads waiting : List ℕ) (except : ℕ) → ListsFit old size count heads waiting except → ((x : ℕ) → IsPage size count x → x ≢ except → SameLinks old new x) → ((k : ℕ) → k < count → page_at size k ≢ except → IsListedRightly new size (page_at size k)) → ListsFit new size count heads waiting except
 lists_frame old new size count heads waiting except h same rightly = record {
   lists = h.lists;
+  none = h.none;
   waits = h.waits;
   heads_are = h.heads_are;
   linked = λ s. linked_same old new 0 (h.lists s)
@@ -184,15 +251,12 @@ lists_frame old new size count heads waiting except h same rightly = record {
   distinct = h.distinct;
   pages = h.pages;
   right = λ s. places_both (IsPage size count) (λ q. (list_of old q ≡ s) × (q ≢ except)) (λ q. (list_of new q ≡ s) × (q ≢ except)) (λ x px r. (same_list old new x (same x px r.1).class (same x px r.1).kind ∙ r.0, r.1)) (h.lists s) (h.pages s) (h.right s);
-  listed = λ j low n.
+  listed = λ j low used n.
       let q = page_at size j in
       let l = same q (record { number = j; below = low; is = refl }) n in
-      subst (λ (t : ℕ). IsIn q (h.lists t)) (sym (same_list old new q l.class l.kind)) (h.listed j low n);
+      subst (λ (t : ℕ). IsIn q (h.lists t)) (sym (same_list old new q l.class l.kind)) (h.listed j low (λ z. used (l.class ∙ z)) n);
   rightly = rightly;
 }
-
-pub not_zero : (size count x : ℕ) → IsPage size count x → x ≢ 0
-not_zero size count x px e = let at : x ≡ page_at size px.number = px.is in omega arith
 
 -- a header word of another page
 pub off_page : (size count x y i j : ℕ) → 64 ≤ size → IsPage size count x → IsPage size count y → i < 8 → j < 8 → x ≢ y → x + i ≢ y + j
@@ -218,8 +282,8 @@ linked_front_changes old new p (x ∷ xs) next kept d is_next back some h =
     )
 
 -- a page that is on no list goes in front of the list s
-pub lists_link_any : (old new : Words) (size count : ℕ) (heads after waiting waiting2 : List ℕ) (k s kind : ℕ) → 64 ≤ size → k < count → (s ≡ 1 → waiting2 ≡ page_at size k ∷ waiting) → (s ≢ 1 → waiting2 ≡ waiting) → s ≡ list_of new (page_at size k) → ListsFit old size count heads waiting (page_at size k) → Links old new heads after (page_at size k) s kind → IsListedRightly new size (page_at size k) → ListsFit new size count after waiting2 0
-lists_link_any old new size count heads after waiting waiting2 k s kind wide below on_waiting not_waiting is_s h u rightly =
+pub lists_link : (old new : Words) (size count : ℕ) (heads after waiting waiting2 : List ℕ) (k s kind : ℕ) → 64 ≤ size → k < count → s ≢ 0 → (s ≡ 1 → waiting2 ≡ page_at size k ∷ waiting) → (s ≢ 1 → waiting2 ≡ waiting) → s ≡ list_of new (page_at size k) → ListsFit old size count heads waiting (page_at size k) → Links old new heads after (page_at size k) s kind → IsListedRightly new size (page_at size k) → ListsFit new size count after waiting2 0
+lists_link old new size count heads after waiting waiting2 k s kind wide below some on_waiting not_waiting is_s h u rightly =
     let p = page_at size k in
     let next = slice_index heads s in
     let is_next : next ≡ first_of_list (h.lists s) = h.heads_are s in
@@ -229,19 +293,14 @@ lists_link_any old new size count heads after waiting waiting2 k s kind wide bel
     u.rest (x + i) (off_page size count x p i 4 wide px is_p small (omega arith) n) (off_page size count x p i 5 wide px is_p small (omega arith) n) (off_page size count x p i 6 wide px is_p small (omega arith) n) (page_words size count x next i 5 wide px next_page small (omega arith) n5) in
     let back : (x : ℕ) → IsPage size count x → x ≢ p → x ≢ next → new (x + 5) ≡ old (x + 5) = λ x px n m.
     u.rest (x + 5) (off_page size count x p 5 4 wide px is_p (omega arith) (omega arith) n) (omega arith) (off_page size count x p 5 6 wide px is_p (omega arith) (omega arith) n) (omega arith) in
-    let signs : (x : ℕ) → IsPage size count x → x ≢ p → SameSigns old new x = λ x px n. record {
-      class = subst (λ (e : ℕ). new e ≡ old e) (omega arith) (word x 0 px n (omega arith) (omega arith));
-      chain = word x 1 px n (omega arith) (omega arith);
-      count = word x 2 px n (omega arith) (omega arith);
-      fresh = word x 3 px n (omega arith) (omega arith);
-      kind = word x 6 px n (omega arith) (omega arith);
-    } in
+    let signs : (x : ℕ) → IsPage size count x → x ≢ p → SameSigns old new x = λ x px n. signs_from old new x (λ i small n4 n5. word x i px n small n5) in
     let same : (x : ℕ) → IsPage size count x → x ≢ p → list_of new x ≡ list_of old x = λ x px n. same_list old new x (signs x px n).class (signs x px n).kind in
     let kept : (t : ℕ) → EachPlace (λ x. IsPage size count x × (list_of old x ≡ t) × (x ≢ p)) (h.lists t) = λ t.
     places_both (IsPage size count) (λ q. (list_of old q ≡ t) × (q ≢ p)) (λ x. IsPage size count x × (list_of old x ≡ t) × (x ≢ p)) (λ x px r. (px, r.0, r.1)) (h.lists t) (h.pages t) (h.right t) in
     let next_sign : (next ≡ 0) ⊎ (list_of old next ≡ s) = subst (λ (y : ℕ). (y ≡ 0) ⊎ (list_of old y ≡ s)) (sym is_next) (first_sign s (list_of old) p (h.lists s) (h.right s)) in
     record {
       lists = updated h.lists s (p ∷ h.lists s);
+      none = updated_by (λ t xs. t ≡ 0 → xs ≡ []) h.lists s (p ∷ h.lists s) (λ z. absurd (some z)) (λ t n z. ap h.lists z ∙ h.none) 0 refl;
       waits = elim (eqb_tells 1 s) [
         | inl a ↦ updated_here h.lists s (p ∷ h.lists s) 1 a.1 ∙ ap (λ (ys : List ℕ). p ∷ ys) (ap h.lists (sym a.1) ∙ h.waits) ∙ sym (on_waiting (sym a.1))
         | inr b ↦ updated_else h.lists s (p ∷ h.lists s) 1 b.1 ∙ h.waits ∙ sym (not_waiting (λ e. b.1 (sym e)))
@@ -262,15 +321,16 @@ lists_link_any old new size count heads after waiting waiting2 k s kind wide bel
       right = updated_by (λ t xs. EachPlace (λ q. (list_of new q ≡ t) × (q ≢ 0)) xs) h.lists s (p ∷ h.lists s)
           ((sym is_s, not_zero size count p is_p), places_map (λ x. IsPage size count x × (list_of old x ≡ s) × (x ≢ p)) (λ q. (list_of new q ≡ s) × (q ≢ 0)) (λ q a. (same q a.0 a.2 ∙ a.1, not_zero size count q a.0)) (h.lists s) (kept s))
           (λ t n. places_map (λ x. IsPage size count x × (list_of old x ≡ t) × (x ≢ p)) (λ q. (list_of new q ≡ t) × (q ≢ 0)) (λ q a. (same q a.0 a.2 ∙ a.1, not_zero size count q a.0)) (h.lists t) (kept t));
-      listed = λ j low n.
+      listed = λ j low used n.
           let q = page_at size j in
           let is_q : IsPage size count q = record { number = j; below = low; is = refl } in
+          let was_used : q ≢ p → old q ≢ 0 = λ n z. used ((signs q is_q n).class ∙ z) in
           elim (eqb_tells q p) [
             | inl a ↦ updated_by (λ t xs. list_of new q ≡ t → IsIn q xs) h.lists s (p ∷ h.lists s) (λ e. inl a.1) (λ t m e. absurd (m (sym e ∙ ap (list_of new) a.1 ∙ sym is_s))) (list_of new q) refl
             | inr b ↦ subst (λ (t : ℕ). IsIn q (updated h.lists s (p ∷ h.lists s) t)) (sym (same q is_q b.1))
                 (updated_by (λ t xs. list_of old q ≡ t → IsIn q xs) h.lists s (p ∷ h.lists s)
-                (λ e. inr (subst (λ (t : ℕ). IsIn q (h.lists t)) e (h.listed j low b.1)))
-                (λ t m e. subst (λ (t : ℕ). IsIn q (h.lists t)) e (h.listed j low b.1)) (list_of old q) refl)
+                (λ e. inr (subst (λ (t : ℕ). IsIn q (h.lists t)) e (h.listed j low (was_used b.1) b.1)))
+                (λ t m e. subst (λ (t : ℕ). IsIn q (h.lists t)) e (h.listed j low (was_used b.1) b.1)) (list_of old q) refl)
           ];
       rightly = λ j low n.
           let q = page_at size j in
@@ -279,6 +339,3 @@ lists_link_any old new size count heads after waiting waiting2 k s kind wide bel
             | inr b ↦ rightly_same old new size q (signs q (record { number = j; below = low; is = refl }) b.1) (h.rightly j low b.1)
           ];
     }
-
-pub lists_link : (old new : Words) (size count : ℕ) (heads after waiting : List ℕ) (k s kind : ℕ) → 64 ≤ size → k < count → s ≢ 1 → s ≡ list_of new (page_at size k) → ListsFit old size count heads waiting (page_at size k) → Links old new heads after (page_at size k) s kind → IsListedRightly new size (page_at size k) → ListsFit new size count after waiting 0
-lists_link old new size count heads after waiting k s kind wide below n is_s h u rightly = lists_link_any old new size count heads after waiting waiting k s kind wide below (λ e. absurd (n e)) (λ e. refl) is_s h u rightly

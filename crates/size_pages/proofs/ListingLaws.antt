@@ -1,14 +1,13 @@
 -- The live blocks are listed by rising place, slot by slot and page by page.
-use Rattle.std.proofs.Common.{◌≡◌, ◌≢◌, ℕ, ◌+◌, ◌-◌, ◌*◌, ◌/◌, ◌<◌, ◌≤◌, ◌⊎◌, inl, inr, Bool, true, false, nat_lt, List, [], ◌∷◌, ◌++◌, append_assoc, arith, refl, sym, ◌∙◌, ap, subst}
+use Rattle.std.proofs.Common.{◌≡◌, ◌≢◌, ℕ, ◌+◌, ◌-◌, ◌*◌, ◌/◌, ◌<◌, ◌≤◌, ◌⊎◌, inl, inr, Bool, true, false, cond, nat_lt, List, [], ◌∷◌, ◌++◌, append_assoc, append-nil, arith, refl, sym, ◌∙◌, ap, subst}
 use Rattle.std.proofs.Math.Nat.{mul-le-mul_right}
 use Rattle.std.proofs.lemmas.Bool.Decides.{nat_tests}
 use Rattle.std.proofs.lemmas.Nat.{div-mul-add}
 use Rattle.std.proofs.lemmas.List.Sorted.{IsPermutation-refl, IsPermutation-sym, IsPermutation-trans, IsPermutation-cons, IsPermutation-middle, IsPermutation-to_front}
-use Rattle.std.specs.List.{filter}
 use Rattle.std.specs.List.Sorted.{IsPermutation}
 use Rattle.heap_space.specs.Memory.{Memory}
 use Rattle.heap_space.specs.Extents.{Extent, Each}
-use Rattle.heap_space.proofs.ExtentLaws.{Each-map, Each-left, Each-right, Each-join}
+use Rattle.heap_space.proofs.ExtentLaws.{Each-map, Each-right, Each-join}
 use Rattle.object_header.specs.Words.{has_flag}
 use Rattle.object_header.specs.declared.flags.Flag.TheVariants.{Free}
 use Rattle.size_pages.specs.PageWords.{Words, word_in, HasAll, IsBlockOf}
@@ -17,9 +16,9 @@ use Rattle.size_pages.specs.HasBlocks.{HasBlocks}
 use Rattle.size_pages.specs.Headers.{IsHeaded, HasHeaders, RiseByPlace, AppendsLive, HoldsMore}
 use Rattle.size_pages.specs.Listing.{CanListBlocks, blocks_below, IsListed, ListsBlocks}
 use Rattle.size_pages.specs.declared.Pages.{Pages}
-use Rattle.size_pages.proofs.FitLaws.{pages_part}
+use Rattle.size_pages.proofs.FitLaws.{pages_part, filter_takes, filter_skips}
 use Rattle.size_pages.proofs.FitsLaws.{places_of, below_of}
-use Rattle.size_pages.proofs.SplitLaws.{Among, each_middle, filter_both, below_same}
+use Rattle.size_pages.proofs.SplitLaws.{Among, each_middle, filter_steady, below_steady, split_at}
 use Rattle.size_pages.proofs.SlotLaws.{AreAway, PageSlots, page_slots, slot_is, all_away}
 
 -- what was appended so far, from the page's beginning to a place
@@ -28,19 +27,15 @@ pub record ListsTo (pages : Pages) (m : Memory) (page : ℕ) (old new : List Ext
       → (more : List Extent) × (new ≡ before ++ more) × IsListed live more place
   pub holds : HoldsMore old new
 
-append_nil : (xs : List Extent) → xs ++ [] ≡ xs
-append_nil [] = refl
-append_nil (x ∷ xs) = ap (λ (ys : List Extent). x ∷ ys) (append_nil xs)
-
 pub lists_start : (pages : Pages) (m : Memory) (page : ℕ) (old : List Extent) → ListsTo pages m page old old page
 lists_start pages m page old = record {
   listed = λ live waiting before appended h e l. (appended, e, l);
-  holds = record { more = []; is = sym (append_nil old) };
+  holds = record { more = []; is = sym (append-nil old) };
 }
 
 listed_skip : (live appended : List Extent) (low high : ℕ) → low ≤ high → AreAway low high live → IsListed live appended low → IsListed live appended high
 listed_skip live appended low high up away l = record {
-  same = subst (λ (xs : List Extent). IsPermutation xs appended) (sym (below_same low high live up away)) l.same;
+  same = subst (λ (xs : List Extent). IsPermutation xs appended) (sym (filter_steady (λ place x. nat_lt x.0 place) below_steady low high live up away)) l.same;
   rising = l.rising;
   below = Each-map (λ x. x.0 < low) (λ x. x.0 < high) (λ x h. omega arith) appended l.below;
 }
@@ -55,31 +50,20 @@ rise_more : (xs : List Extent) (x : Extent) → RiseByPlace xs → Each (λ y. y
 rise_more [] x r below = (tt, tt)
 rise_more (y ∷ ys) x r below = (Each-join (λ z. y.0 < z.0) ys (x ∷ []) r.0 (below.0, tt), rise_more ys x r.1 below.1)
 
-pub filter_yes : (t : Extent → Bool) (x : Extent) (xs : List Extent) → t x ≡ true → filter t (x ∷ xs) ≡ x ∷ filter t xs
-filter_yes t x xs e = rw e refl
-
-pub filter_no : (t : Extent → Bool) (x : Extent) (xs : List Extent) → t x ≡ false → filter t (x ∷ xs) ≡ filter t xs
-filter_no t x xs e = rw e refl
-
 listed_more : (live appended : List Extent) (b n : ℕ) → 0 < n → Among b n live → IsListed live appended b → IsListed live (appended ++ (b, n) ∷ []) (b + n)
 listed_more live appended b n some a l =
-    let F = a.front in
-    let L = a.back in
     let x : Extent = (b, n) in
-    let up = Each-left (λ y. (y.0 < b) ⊎ (b + n ≤ y.0)) F L a.away in
-    let back = Each-right (λ y. (y.0 < b) ⊎ (b + n ≤ y.0)) F L a.away in
+    let s = split_at (λ place y. nat_lt y.0 place) below_steady b n live a in
+    let F = s.front in
+    let L = s.back in
     let here : nat_lt b (b + n) ≡ true = grind (arith, nat_tests) in
     let not_yet : nat_lt b b ≡ false = grind (arith, nat_tests) in
-    let after : blocks_below (b + n) live ≡ blocks_below b F ++ x ∷ blocks_below b L = ap (blocks_below (b + n)) a.is ∙ filter_both (λ y. nat_lt y.0 (b + n)) F (x ∷ L)
-    ∙ ap (λ (ys : List Extent). blocks_below (b + n) F ++ ys) (filter_yes (λ y. nat_lt y.0 (b + n)) x L here)
-    ∙ ap (λ (ys : List Extent). ys ++ x ∷ blocks_below (b + n) L) (below_same b (b + n) F (omega arith) up)
-    ∙ ap (λ (ys : List Extent). blocks_below b F ++ x ∷ ys) (below_same b (b + n) L (omega arith) back) in
-    let was : blocks_below b live ≡ blocks_below b F ++ blocks_below b L = ap (blocks_below b) a.is ∙ filter_both (λ y. nat_lt y.0 b) F (x ∷ L)
-    ∙ ap (λ (ys : List Extent). blocks_below b F ++ ys) (filter_no (λ y. nat_lt y.0 b) x L not_yet) in
-    let old : IsPermutation (blocks_below b F ++ blocks_below b L) appended = subst (λ (ys : List Extent). IsPermutation ys appended) was l.same in
-    let moved : IsPermutation (blocks_below b F ++ x ∷ blocks_below b L) (appended ++ x ∷ []) =
-    IsPermutation-trans (blocks_below b F ++ x ∷ blocks_below b L) (x ∷ (blocks_below b F ++ blocks_below b L)) (appended ++ x ∷ []) (IsPermutation-middle (blocks_below b F) x (blocks_below b L))
-    (IsPermutation-trans (x ∷ (blocks_below b F ++ blocks_below b L)) (x ∷ appended) (appended ++ x ∷ []) (IsPermutation-cons x (blocks_below b F ++ blocks_below b L) appended old)
+    let after : blocks_below (b + n) live ≡ F ++ x ∷ L = s.behind ∙ ap (λ (c : Bool). F ++ cond c (x ∷ L) L) here in
+    let was : blocks_below b live ≡ F ++ L = s.before ∙ ap (λ (c : Bool). F ++ cond c (x ∷ L) L) not_yet in
+    let old : IsPermutation (F ++ L) appended = subst (λ (ys : List Extent). IsPermutation ys appended) was l.same in
+    let moved : IsPermutation (F ++ x ∷ L) (appended ++ x ∷ []) =
+    IsPermutation-trans (F ++ x ∷ L) (x ∷ (F ++ L)) (appended ++ x ∷ []) (IsPermutation-middle F x L)
+    (IsPermutation-trans (x ∷ (F ++ L)) (x ∷ appended) (appended ++ x ∷ []) (IsPermutation-cons x (F ++ L) appended old)
     (IsPermutation-sym (appended ++ x ∷ []) (x ∷ appended) (IsPermutation-to_front appended x))) in
     record {
       same = subst (λ (ys : List Extent). IsPermutation ys (appended ++ x ∷ [])) (sym after) moved;
@@ -270,18 +254,18 @@ pub record ListedTo (pages : Pages) (m : Memory) (old new : List Extent) (k : �
 
 below_none : (a : ℕ) (xs : List Extent) → Each (λ x. a ≤ x.0) xs → blocks_below a xs ≡ []
 below_none a [] all = refl
-below_none a (x ∷ xs) all = filter_no (λ y. nat_lt y.0 a) x xs (let low : a ≤ x.0 = all.0 in grind (arith, nat_tests)) ∙ below_none a xs all.1
+below_none a (x ∷ xs) all = filter_skips (λ y. nat_lt y.0 a) x xs (let low : a ≤ x.0 = all.0 in grind (arith, nat_tests)) ∙ below_none a xs all.1
 
 below_all : (a : ℕ) (xs : List Extent) → Each (λ x. x.0 < a) xs → blocks_below a xs ≡ xs
 below_all a [] all = refl
-below_all a (x ∷ xs) all = filter_yes (λ y. nat_lt y.0 a) x xs (let low : x.0 < a = all.0 in grind (arith, nat_tests)) ∙ ap (λ (ys : List Extent). x ∷ ys) (below_all a xs all.1)
+below_all a (x ∷ xs) all = filter_takes (λ y. nat_lt y.0 a) x xs (let low : x.0 < a = all.0 in grind (arith, nat_tests)) ∙ ap (λ (ys : List Extent). x ∷ ys) (below_all a xs all.1)
 
 pub listed_none : (pages : Pages) (m : Memory) (old : List Extent) → ListedTo pages m old old 0
 listed_none pages m old = record {
   listed = λ live waiting h.
       let none : blocks_below (page_at pages.page 0) live ≡ [] = below_none (page_at pages.page 0) live (Each-map (IsInPages pages.page pages.count) (λ x. page_at pages.page 0 ≤ x.0) (λ x is. let low : page_at pages.page is.page + 8 ≤ x.0 = is.low in omega arith) live h.fits.blocks.inside) in
-      ([], sym (append_nil old), record { same = subst (λ (xs : List Extent). IsPermutation xs []) (sym none) (IsPermutation-refl []); rising = tt; below = tt });
-  holds = record { more = []; is = sym (append_nil old) };
+      ([], sym (append-nil old), record { same = subst (λ (xs : List Extent). IsPermutation xs []) (sym none) (IsPermutation-refl []); rising = tt; below = tt });
+  holds = record { more = []; is = sym (append-nil old) };
 }
 
 pub holds_then : (a b c : List Extent) → HoldsMore a b → HoldsMore b c → HoldsMore a c

@@ -1,15 +1,16 @@
 -- The live blocks may be named in any order.
-use Rattle.std.proofs.Common.{◌≡◌, ℕ, ◌+◌, ◌*◌, inl, inr, Bool, true, false, cond, List, [], ◌∷◌, ◌++◌, length, arith, refl, sym, ◌∙◌, ap, subst}
+use Rattle.std.proofs.Common.{◌≡◌, ℕ, ◌+◌, ◌*◌, inl, inr, Bool, true, false, cond, List, [], ◌∷◌, ◌++◌, length, arith, sym, ◌∙◌, ap, subst}
 use Rattle.std.proofs.Common.{length-append}
 use Rattle.std.specs.List.{filter}
 use Rattle.heap_space.specs.Memory.{Memory}
 use Rattle.heap_space.specs.Extents.{Extent, Each, IsApart, AreApart}
-use Rattle.heap_space.proofs.ExtentLaws.{Each-out, Each-into, AreApart-out, AreApart-into}
+use Rattle.heap_space.proofs.ExtentLaws.{Each-out, AreApart-out}
 use Rattle.size_pages.specs.PageWords.{Words, word_in, IsBlockOf, BeginsAt, PageHolds}
 use Rattle.size_pages.specs.LiveBlocks.{page_at, in_page, PageIs, IsInPages}
 use Rattle.size_pages.specs.HasBlocks.{HasBlocks}
 use Rattle.size_pages.specs.declared.Pages.{Pages}
-use Rattle.size_pages.proofs.PageLaws.{begins_out, begins_into}
+use Rattle.size_pages.proofs.PageLaws.{begins_out}
+use Rattle.size_pages.proofs.SplitLaws.{filter_both}
 
 -- moving x from behind F to the front, behind free blocks
 each_front : (P : Extent → Type 0) (free F L : List Extent) (x : Extent) → Each P (free ++ (F ++ x ∷ L)) → Each P (free ++ x ∷ (F ++ L))
@@ -40,16 +41,8 @@ holds_front w size p free F L x h = record {
   filled = λ i low. begins_front (p + 8 + i * w p) free F L x (h.filled i low);
 }
 
-filter_append_case : (b : Bool) (f : Extent) (fg F G : List Extent) → fg ≡ F ++ G → cond b (f ∷ fg) fg ≡ cond b (f ∷ F) F ++ G
-filter_append_case true f fg F G e = ap (λ (ys : List Extent). f ∷ ys) e
-filter_append_case false f fg F G e = e
-
 not_nil : (F L : List Extent) (x : Extent) → F ++ x ∷ L ≡ [] → ⊥
 not_nil F L x e = let l : length (F ++ x ∷ L) ≡ 0 = ap length e in omega (arith, length-append F (x ∷ L))
-
-filter_append : (t : Extent → Bool) (F G : List Extent) → filter t (F ++ G) ≡ filter t F ++ filter t G
-filter_append t [] G = refl
-filter_append t (f ∷ F) G = filter_append_case (t f) f (filter t (F ++ G)) (filter t F) (filter t G) (filter_append t F G)
 
 page_front_case : (w : Words) (size p : ℕ) (F L both : List Extent) (x : Extent) (b : Bool) → both ≡ F ++ L → PageIs w size p (F ++ cond b (x ∷ L) L) → PageIs w size p (cond b (x ∷ both) both)
 page_front_case w size p F L both x true e h = subst (λ (ys : List Extent). PageIs w size p (x ∷ ys)) (sym e) (record { free = h.free; unused = λ z. absurd (not_nil F L x (h.unused z)); holds = λ z. holds_front w size p h.free F L x (h.holds z) })
@@ -58,86 +51,16 @@ page_front_case w size p F L both x false e h = subst (λ (ys : List Extent). Pa
 -- any block moved to the front
 pub HasBlocks_front : (pages : Pages) (m : Memory) (F L : List Extent) (x : Extent) (waiting : List ℕ) → HasBlocks pages m (F ++ x ∷ L) waiting → HasBlocks pages m (x ∷ (F ++ L)) waiting
 HasBlocks_front pages m F L x waiting f = record {
-  size_high = f.size_high;
-  arena_low = f.arena_low;
-  arena_high = f.arena_high;
-  small_low = f.small_low;
-  small_high = f.small_high;
-  arena_size = f.arena_size;
-  end = f.end;
-  below = f.below;
-  placed = f.placed;
+  setup = f.setup;
+  arenas = f.arenas;
   blocks = record {
     size_low = f.blocks.size_low;
     pages = λ k below.
         let t = in_page pages.page (page_at pages.page k) in
-        page_front_case (word_in m) pages.page (page_at pages.page k) (filter t F) (filter t L) (filter t (F ++ L)) x (t x) (filter_append t F L)
-        (subst (λ (bs : List Extent). PageIs (word_in m) pages.page (page_at pages.page k) bs) (filter_append t F (x ∷ L)) (f.blocks.pages k below));
+        page_front_case (word_in m) pages.page (page_at pages.page k) (filter t F) (filter t L) (filter t (F ++ L)) x (t x) (filter_both t F L)
+        (subst (λ (bs : List Extent). PageIs (word_in m) pages.page (page_at pages.page k) bs) (filter_both t F (x ∷ L)) (f.blocks.pages k below));
     inside = Each-out (IsInPages pages.page pages.count) F L x f.blocks.inside;
     apart = AreApart-out F L x f.blocks.apart;
-  };
-  classes = f.classes;
-  lists = f.lists;
-  heads = f.heads;
-  waits = f.waits;
-  rising = f.rising;
-  room = f.room;
-}
-
-each_back : (P : Extent → Type 0) (free F L : List Extent) (x : Extent) → Each P (free ++ x ∷ (F ++ L)) → Each P (free ++ (F ++ x ∷ L))
-each_back P [] F L x h = Each-into P F L x h.0 h.1
-each_back P (f ∷ free) F L x h = (h.0, each_back P free F L x h.1)
-
-apart_back : (free F L : List Extent) (x : Extent) → AreApart (free ++ x ∷ (F ++ L)) → AreApart (free ++ (F ++ x ∷ L))
-apart_back [] F L x h = AreApart-into F L x h
-apart_back (f ∷ free) F L x h = (each_back (IsApart f) free F L x h.0, apart_back free F L x h.1)
-
-begins_back : (a : ℕ) (free F L : List Extent) (x : Extent) → BeginsAt a (free ++ x ∷ (F ++ L)) → BeginsAt a (free ++ (F ++ x ∷ L))
-begins_back a [] F L x h = begins_into a F L x h
-begins_back a (f ∷ free) F L x h = elim h [ inl e ↦ inl e | inr t ↦ inr (begins_back a free F L x t) ]
-
-holds_back : (w : Words) (size p : ℕ) (free F L : List Extent) (x : Extent) → PageHolds w size p free (x ∷ (F ++ L)) → PageHolds w size p free (F ++ x ∷ L)
-holds_back w size p free F L x h = record {
-  words = h.words;
-  chain = h.chain;
-  count = h.count ∙ sym (length_front F L x);
-  fresh_low = h.fresh_low;
-  fresh_high = h.fresh_high;
-  blocks = each_back (IsBlockOf (w p) (p + 8) (w (p + 3))) free F L x h.blocks;
-  apart = apart_back free F L x h.apart;
-  all = ap (λ (k : ℕ). (length free + k) * w p + (p + 8)) (length_front F L x) ∙ h.all;
-  filled = λ i low. begins_back (p + 8 + i * w p) free F L x (h.filled i low);
-}
-
-no_cons : (x : Extent) (xs : List Extent) → x ∷ xs ≡ [] → ⊥
-no_cons x xs e = let l : length (x ∷ xs) ≡ 0 = ap length e in omega arith
-
-page_back_case : (w : Words) (size p : ℕ) (F L both : List Extent) (x : Extent) (b : Bool) → both ≡ F ++ L → PageIs w size p (cond b (x ∷ both) both) → PageIs w size p (F ++ cond b (x ∷ L) L)
-page_back_case w size p F L both x true e h =
-    let g : PageIs w size p (x ∷ (F ++ L)) = subst (λ (ys : List Extent). PageIs w size p (x ∷ ys)) e h in
-    record { free = g.free; unused = λ z. absurd (no_cons x (F ++ L) (g.unused z)); holds = λ z. holds_back w size p g.free F L x (g.holds z) }
-page_back_case w size p F L both x false e h = subst (λ (ys : List Extent). PageIs w size p ys) e h
-
--- the first block moved back
-pub HasBlocks_back : (pages : Pages) (m : Memory) (F L : List Extent) (x : Extent) (waiting : List ℕ) → HasBlocks pages m (x ∷ (F ++ L)) waiting → HasBlocks pages m (F ++ x ∷ L) waiting
-HasBlocks_back pages m F L x waiting f = record {
-  size_high = f.size_high;
-  arena_low = f.arena_low;
-  arena_high = f.arena_high;
-  small_low = f.small_low;
-  small_high = f.small_high;
-  arena_size = f.arena_size;
-  end = f.end;
-  below = f.below;
-  placed = f.placed;
-  blocks = record {
-    size_low = f.blocks.size_low;
-    pages = λ k below.
-        let t = in_page pages.page (page_at pages.page k) in
-        subst (λ (bs : List Extent). PageIs (word_in m) pages.page (page_at pages.page k) bs) (sym (filter_append t F (x ∷ L)))
-        (page_back_case (word_in m) pages.page (page_at pages.page k) (filter t F) (filter t L) (filter t (F ++ L)) x (t x) (filter_append t F L) (f.blocks.pages k below));
-    inside = Each-into (IsInPages pages.page pages.count) F L x f.blocks.inside.0 f.blocks.inside.1;
-    apart = AreApart-into F L x f.blocks.apart;
   };
   classes = f.classes;
   lists = f.lists;

@@ -1,85 +1,35 @@
 -- Pages that go on the list of the waiting ones, and leave it.
-use Rattle.std.proofs.Common.{◌≡◌, ◌≢◌, ℕ, ◌+◌, ◌-◌, ◌*◌, ◌<◌, ◌≤◌, ◌⊎◌, inl, inr, List, [], ◌∷◌, length, slice_index, arith, refl, sym, ◌∙◌, ap, subst}
+use Rattle.std.proofs.Common.{◌≡◌, ◌≢◌, ℕ, ◌+◌, ◌-◌, ◌*◌, ◌<◌, ◌≤◌, ◌⊎◌, inl, inr, List, [], ◌∷◌, length, slice_index, arith, refl, sym, ◌∙◌, subst}
 use Rattle.std.proofs.lemmas.Bool.Decides.{eqb_tells}
 use Rattle.heap_space.specs.Memory.{Memory}
 use Rattle.heap_space.specs.Extents.{Extent}
-use Rattle.size_pages.specs.PageWords.{Words, word_in, HasAll, IsInArenas}
-use Rattle.size_pages.specs.LiveBlocks.{page_at, ClassesFit}
-use Rattle.size_pages.specs.PageLists.{EachPlace, first_of_list, IsPage, list_number, list_of, IsRight, IsListedRightly, ListsFit, Unlinks, Links, SameSigns}
+use Rattle.size_pages.specs.PageWords.{word_in, HasAll, IsInArenas}
+use Rattle.size_pages.specs.LiveBlocks.{page_at}
+use Rattle.size_pages.specs.PageLists.{EachPlace, IsPage, IsRight, IsListedRightly, Unlinks, Links, SameSigns}
 use Rattle.size_pages.specs.HasBlocks.{HasBlocksBut, HasBlocks, IsRising, KeepsSizes}
 use Rattle.size_pages.specs.Steps.{CanLink, CanTakeOff, IsOnlyHeads}
 use Rattle.size_pages.specs.SweepSteps.{IsOnlyLists, CanWait, CanPutWaiting, WaitsMore}
 use Rattle.size_pages.specs.declared.Pages.{Pages}
-use Rattle.size_pages.proofs.FitLaws.{pages_part, fits_links, StaysButLinks}
+use Rattle.size_pages.proofs.FitLaws.{pages_part}
 use Rattle.size_pages.proofs.ListLaws.{places_map}
-use Rattle.size_pages.proofs.ListMoves.{page_words, not_zero, first_page, lists_link_any}
-use Rattle.size_pages.proofs.FitsLaws.{last_linked, fits_any, places_of, below_of, header_has, has_or, no_link, classes_same, beside}
+use Rattle.size_pages.proofs.ListMoves.{page_words, not_zero, first_page}
+use Rattle.size_pages.proofs.FitsLaws.{can_link_at, on_any, places_of, below_of, header_has, beside}
 use Rattle.size_pages.proofs.EndLaws.{heads_long, number_of_list}
 use Rattle.size_pages.proofs.KeepLaws.{keeps_then, links_keep, off_keeps}
 use Rattle.size_pages.proofs.ArenaLaws.{arenas_then}
 
--- where the words of the links alone change
-link_words : (w new : Words) (size count page next : ℕ) (heads after : List ℕ) (list kind : ℕ) → 64 ≤ size → IsPage size count page → (next ≡ 0) ⊎ IsPage size count next → next ≡ slice_index heads list → Links w new heads after page list kind → StaysButLinks w new size count
-link_words w new size count page next heads after list kind wide is next_page is_next u j below e from upto part = u.rest e
-    (no_link size count j page e 4 wide (inr is) from upto part (omega arith) (omega arith))
-    (no_link size count j page e 5 wide (inr is) from upto part (omega arith) (omega arith))
-    (no_link size count j page e 6 wide (inr is) from upto part (omega arith) (omega arith))
-    (λ same. no_link size count j next e 5 wide next_page from upto part (omega arith) (omega arith) (same ∙ ap (λ (x : ℕ). x + 5) (sym is_next)))
-
-first_other : (p : ℕ) → p ≢ 0 → (xs : List ℕ) → EachPlace (λ q. q ≢ p) xs → first_of_list xs ≢ p
-first_other p n [] all e = n (sym e)
-first_other p n (x ∷ xs) all e = all.0 e
-
 pub can_link_waiting : (pages : Pages) (m : Memory) (page : ℕ) → CanPutWaiting pages m page → CanLink m pages.heads.items page 1
 can_link_waiting pages m page c =
-    let size = pages.page in
-    let count = pages.count in
     let f = c.fits in
-    let wide : 64 ≤ size = f.blocks.size_low in
-    let below : page_at size count ≤ 1099511627776 = below_of f in
-    let small : 2 ≤ pages.small = f.small_low in
-    let next = slice_index pages.heads.items 1 in
-    let is_next : next ≡ first_of_list (f.lists.lists 1) = f.lists.heads_are 1 in
-    let next_page : (next ≡ 0) ⊎ IsPage size count next = subst (λ (y : ℕ). (y ≡ 0) ⊎ IsPage size count y) (sym is_next) (first_page size count (f.lists.lists 1) (f.lists.pages 1)) in
-    let n : page ≢ 0 = not_zero size count page c.is_page in
-    let other : next ≢ page = λ e. first_other page n (f.lists.lists 1) (places_map (λ q. (list_of (word_in m) q ≡ 1) × (q ≢ page)) (λ q. q ≢ page) (λ q r. r.1) (f.lists.lists 1) (f.lists.right 1)) (sym is_next ∙ e) in
-    record {
-      header = header_has m size count page wide (places_of f) below c.is_page;
-      list_in = heads_long f page 1 c.is_page (omega arith);
-      next = has_or m size count next 5 wide (places_of f) below next_page (omega arith);
-      apart4 = λ e. page_words size count page next 4 5 wide c.is_page next_page (omega arith) (omega arith) (omega arith) (sym e);
-      apart5 = other;
-      apart6 = λ e. page_words size count page next 6 5 wide c.is_page next_page (omega arith) (omega arith) (omega arith) (sym e);
-    }
+    let small : 2 ≤ pages.small = f.setup.small_low in
+    can_link_at page 1 f c.is_page (heads_long f page 1 c.is_page (omega arith))
 
 pub wait_fits : (pages after : Pages) (m new : Memory) (page : ℕ) → CanPutWaiting pages m page → Links (word_in m) (word_in new) pages.heads.items after.heads.items page 1 3 → IsInArenas m new → IsOnlyLists pages after → after.waiting ≡ pages.waiting + 1
-    → (live : List Extent) (waiting : List ℕ) → HasBlocksBut pages m live waiting page 0 → EachPlace (λ q. page < q) waiting → HasBlocks after new live (page ∷ waiting)
+    → (live : List Extent) (waiting : List ℕ) → HasBlocksBut pages m live waiting page → EachPlace (λ q. page < q) waiting → HasBlocks after new live (page ∷ waiting)
 wait_fits pages after m new page c u s only more live waiting f above =
-    let size = pages.page in
-    let count = pages.count in
-    let w = word_in m in
-    let now = word_in new in
-    let wide : 64 ≤ size = f.blocks.size_low in
-    let k = c.is_page.number in
-    let at : page ≡ page_at size k = c.is_page.is in
-    let next = slice_index pages.heads.items 1 in
-    let is_next : next ≡ first_of_list (f.lists.lists 1) = f.lists.heads_are 1 in
-    let next_page : (next ≡ 0) ⊎ IsPage size count next = subst (λ (y : ℕ). (y ≡ 0) ⊎ IsPage size count y) (sym is_next) (first_page size count (f.lists.lists 1) (f.lists.pages 1)) in
-    let links : StaysButLinks w now size count = link_words w now size count page next pages.heads.items after.heads.items 1 3 wide c.is_page next_page refl u in
-    let word : (i : ℕ) → i < 4 → now (page + i) ≡ w (page + i) = λ i small. subst (λ (p : ℕ). now (p + i) ≡ w (p + i)) (sym at) (links k c.is_page.below (page_at size k + i) (omega arith) (omega arith) (inl (omega arith))) in
-    let class : now page ≡ w page = subst (λ (e : ℕ). now e ≡ w e) (omega arith) (word 0 (omega arith)) in
-    let used : 2 ≤ w page = c.used in
-    let right : IsRight 3 now size page = record { known = omega arith; unused = λ e. absurd (omega arith); used = λ e. omega arith; room = λ e. absurd (omega arith); full = λ e. absurd (omega arith); busy = λ e. absurd (omega arith) } in
-    let listed : IsListedRightly now size page = subst (λ (t : ℕ). IsRight t now size page) (sym u.kind_is) right in
-    let is_list : 1 ≡ list_of now page = sym (ap (λ (t : ℕ). list_number t (now page)) u.kind_is) in
-    let lists : ListsFit now size count after.heads.items (page ∷ waiting) 0 =
-    lists_link_any w now size count pages.heads.items after.heads.items waiting (page ∷ waiting) k 1 3 wide c.is_page.below (λ e. ap (λ (p : ℕ). p ∷ waiting) at) (λ e. absurd (e refl))
-    (subst (λ (p : ℕ). 1 ≡ list_of now p) at is_list)
-    (subst (λ (p : ℕ). ListsFit w size count pages.heads.items waiting p) at f.lists)
-    (subst (λ (p : ℕ). Links w now pages.heads.items after.heads.items p 1 3) at u)
-    (subst (λ (p : ℕ). IsListedRightly now size p) at listed) in
-    let classes : ClassesFit now size count pages.small pages.lowest = classes_same w now size count pages.small pages.lowest f.classes (λ j below. links j below (page_at size j) (omega arith) (omega arith) (inl (omega arith))) (last_linked w now size count pages.heads.items after.heads.items page 1 3 wide c.is_page next_page u) in
-    fits_any pages after m new live live waiting (page ∷ waiting) page 0 0 f only s (fits_links w now size count live f.blocks links) classes lists (more ∙ (let e : pages.waiting ≡ length waiting = f.waits in omega arith)) (above, f.rising)
+    let used : 2 ≤ word_in m page = c.used in
+    let right : IsRight 3 (word_in m) pages.page page = record { known = omega arith; unused = λ e. absurd (omega arith); used = λ e. used; room = λ e. absurd (omega arith); full = λ e. absurd (omega arith); busy = λ e. absurd (omega arith) } in
+    on_any pages after m new page 1 3 c.is_page (λ z. omega (arith, z)) refl right u s only live waiting (page ∷ waiting) f (λ e. refl) (λ n. absurd (n refl)) (more ∙ (let e : pages.waiting ≡ length waiting = f.waits in omega arith)) (above, f.rising)
 
 -- as many places as rise below a number are at most that number
 rising_few : (n x : ℕ) (xs : List ℕ) → IsRising (x ∷ xs) → EachPlace (λ q. q < n) (x ∷ xs) → x + length (x ∷ xs) ≤ n
@@ -90,8 +40,8 @@ few_rise : (n : ℕ) (xs : List ℕ) → IsRising xs → EachPlace (λ q. q < n)
 few_rise n [] r all = omega arith
 few_rise n (x ∷ xs) r all = let h = rising_few n x xs r all in omega arith
 
-pub few_waiting : (pages : Pages) (m : Memory) (live : List Extent) (waiting : List ℕ) (except spare : ℕ) → HasBlocksBut pages m live waiting except spare → pages.waiting ≤ 1099511627776
-few_waiting pages m live waiting except spare f =
+pub few_waiting : (pages : Pages) (m : Memory) (live : List Extent) (waiting : List ℕ) (except : ℕ) → HasBlocksBut pages m live waiting except → pages.waiting ≤ 1099511627776
+few_waiting pages m live waiting except f =
     let size = pages.page in
     let wide : 64 ≤ size = f.blocks.size_low in
     let below : page_at size pages.count ≤ 1099511627776 = below_of f in
@@ -125,24 +75,24 @@ wait_facts pages m page c =
     let low : 1 ≤ w (page + 6) = kind_low (w (page + 6)) (w page) c.used right.unused in
     let used : 2 ≤ w page = right.used (omega arith) in
     let class : w page ≤ pages.small = subst (λ (q : ℕ). w q ≤ pages.small) (sym at) (f.classes.small k c.is_page.below) in
-    let small : pages.small + 8 ≤ size = f.small_high in
-    let big : size ≤ 8192 = f.size_high in
+    let small : pages.small + 8 ≤ size = f.setup.small_high in
+    let big : size ≤ 8192 = f.setup.size_high in
     record {
       header = header_has m size pages.count page wide (places_of f) (below_of f) c.is_page;
       off = record {
         stands = record { live = c.live; waiting = c.waiting; fits = f };
         is_page = c.is_page;
         is_list = number_of_list (w (page + 6)) (w page) (w page) refl low c.not_waiting;
-        not_waiting = omega arith;
+        low = omega arith;
       };
       used = used;
       kind = low;
       kind_most = right.known;
       small = omega arith;
-      few = few_waiting pages m c.live c.waiting 0 0 f;
+      few = few_waiting pages m c.live c.waiting 0 f;
     }
 
-pub can_put_waiting : (pages p1 : Pages) (m m1 : Memory) (page list : ℕ) → CanWait pages m page → ((live : List Extent) (waiting : List ℕ) → HasBlocks pages m live waiting → HasBlocksBut p1 m1 live waiting page 0) → SameSigns (word_in m) (word_in m1) page → IsOnlyHeads pages p1 → CanPutWaiting p1 m1 page
+pub can_put_waiting : (pages p1 : Pages) (m m1 : Memory) (page list : ℕ) → CanWait pages m page → ((live : List Extent) (waiting : List ℕ) → HasBlocks pages m live waiting → HasBlocksBut p1 m1 live waiting page) → SameSigns (word_in m) (word_in m1) page → IsOnlyHeads pages p1 → CanPutWaiting p1 m1 page
 can_put_waiting pages p1 m m1 page list c off signs only =
     let g = wait_facts pages m page c in
     let two : 2 ≤ word_in m page = g.used in
@@ -163,7 +113,7 @@ off_words : (pages : Pages) (after : List ℕ) (m new : Memory) (page list k i :
 off_words pages after m new page list k i c u below small n4 n5 =
     let size = pages.page in
     let f = c.stands.fits in
-    let b = beside (word_in m) size pages.count page list pages.heads.items c.stands.waiting 0 f.lists c.is_page (not_zero size pages.count page c.is_page) c.is_list in
+    let b = beside (word_in m) size pages.count page list pages.heads.items c.stands.waiting 0 f.lists c.is_page (not_zero size pages.count page c.is_page) c.is_list (λ z. omega (arith, z, c.low)) in
     let is : IsPage size pages.count (page_at size k) = record { number = k; below = below; is = refl } in
     u.rest (page_at size k + i) (page_words size pages.count (page_at size k) (word_in m (page + 5)) i 4 f.blocks.size_low is b.before small (omega arith) n4) (page_words size pages.count (page_at size k) (word_in m (page + 4)) i 5 f.blocks.size_low is b.next small (omega arith) n5)
 
@@ -183,8 +133,8 @@ on_words pages after m new page k i c u below which =
       | inr s ↦ (let six : i ≡ 6 = s.0 in u.rest (page_at size k + i) (words 4 (omega arith) (omega arith) (omega arith)) (words 5 (omega arith) (omega arith) (omega arith)) (λ same. s.1 (omega (arith, same))) (five (omega arith) (omega arith)))
     ]
 
-pub waits_more : (pages p1 p2 : Pages) (m m1 m2 : Memory) (page list : ℕ) → CanWait pages m page → CanTakeOff pages m page list → ((live : List Extent) (waiting : List ℕ) → HasBlocks pages m live waiting → HasBlocksBut p1 m1 live waiting page 0) → Unlinks (word_in m) (word_in m1) pages.heads.items p1.heads.items page list → SameSigns (word_in m) (word_in m1) page → IsOnlyHeads pages p1 → IsInArenas m m1
-    → ((live : List Extent) (waiting : List ℕ) → HasBlocksBut p1 m1 live waiting page 0 → EachPlace (λ q. page < q) waiting → HasBlocks p2 m2 live (page ∷ waiting)) → Links (word_in m1) (word_in m2) p1.heads.items p2.heads.items page 1 3 → KeepsSizes p1 p2 → p2.count ≡ p1.count → p2.order ≡ p1.order → IsInArenas m1 m2 → WaitsMore pages p2 m m2 page
+pub waits_more : (pages p1 p2 : Pages) (m m1 m2 : Memory) (page list : ℕ) → CanWait pages m page → CanTakeOff pages m page list → ((live : List Extent) (waiting : List ℕ) → HasBlocks pages m live waiting → HasBlocksBut p1 m1 live waiting page) → Unlinks (word_in m) (word_in m1) pages.heads.items p1.heads.items page list → SameSigns (word_in m) (word_in m1) page → IsOnlyHeads pages p1 → IsInArenas m m1
+    → ((live : List Extent) (waiting : List ℕ) → HasBlocksBut p1 m1 live waiting page → EachPlace (λ q. page < q) waiting → HasBlocks p2 m2 live (page ∷ waiting)) → Links (word_in m1) (word_in m2) p1.heads.items p2.heads.items page 1 3 → KeepsSizes p1 p2 → p2.count ≡ p1.count → p2.order ≡ p1.order → IsInArenas m1 m2 → WaitsMore pages p2 m m2 page
 waits_more pages p1 p2 m m1 m2 page list c off_ok off u signs only s on l sizes count order s2 =
     let put = can_put_waiting pages p1 m m1 page list c off signs only in
     let size : p1.page ≡ pages.page = only.page in
@@ -193,7 +143,7 @@ waits_more pages p1 p2 m m1 m2 page list c off_ok off u signs only s on l sizes 
     ∙ off_words pages p1.heads.items m m1 page list k i off_ok u below small n4 n5 in
     record {
       fits = λ live waiting f above. on live waiting (off live waiting f) above;
-      kept = λ live waiting f. keeps_then m m1 m2 live (off_keeps pages p1.heads.items m m1 page list off_ok u live waiting f) (links_keep p1 p2.heads.items m1 m2 page 1 3 live waiting 0 put.is_page l (off live waiting f));
+      kept = λ live waiting f. keeps_then m m1 m2 live (off_keeps pages p1.heads.items m m1 page list off_ok u live waiting f) (links_keep p1 p2.heads.items m1 m2 page 1 3 live waiting put.is_page l (off live waiting f));
       classes = λ k below. subst (λ (e : ℕ). word_in m2 e ≡ word_in m e) (omega arith) (word k 0 below (omega arith) (omega arith) (omega arith) (inl refl));
       others = λ k below away. word k 6 below (omega arith) (omega arith) (omega arith) (inr (refl, away));
       sizes = record { page = sizes.page ∙ only.page; pages_per_arena = sizes.pages_per_arena ∙ only.pages_per_arena; small = sizes.small ∙ only.small };

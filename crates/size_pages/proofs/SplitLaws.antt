@@ -1,12 +1,12 @@
 -- A live block among the others: which begin below its place, and which behind its end.
-use Rattle.std.proofs.Common.{◌≡◌, ℕ, ◌+◌, ◌<◌, ◌≤◌, ◌⊎◌, inl, inr, Bool, cond, nat_lt, List, [], ◌∷◌, ◌++◌, arith, refl, ◌∙◌, ap, subst}
+use Rattle.std.proofs.Common.{◌≡◌, ℕ, ◌+◌, ◌<◌, ◌≤◌, ◌⊎◌, inl, inr, Bool, cond, nat_lt, List, [], ◌∷◌, ◌++◌, arith, refl, sym, ◌∙◌, ap, subst}
 use Rattle.std.proofs.lemmas.Bool.{cases_Bool}
 use Rattle.std.proofs.lemmas.Bool.Decides.{nat_tests}
 use Rattle.std.specs.List.{filter}
 use Rattle.heap_space.specs.Extents.{Extent, Each, IsApart, AreApart}
-use Rattle.heap_space.proofs.ExtentLaws.{Each-map, Each-both, AreApart-out}
+use Rattle.heap_space.proofs.ExtentLaws.{Each-map, Each-both, Each-left, Each-right, Each-join, AreApart-out}
 use Rattle.size_pages.specs.PageWords.{BeginsAt}
-use Rattle.size_pages.specs.Listing.{blocks_below}
+use Rattle.size_pages.proofs.FitLaws.{filter_takes, filter_skips}
 
 -- the block at b of n words, and the others, each of which begins below it or behind it
 pub record Among (b n : ℕ) (live : List Extent) : Type 0 where
@@ -63,6 +63,47 @@ pub filter_same : (t u : Extent → Bool) (xs : List Extent) → Each (λ x. t x
 filter_same t u [] same = refl
 filter_same t u (x ∷ xs) same = ap (λ (b : Bool). cond b (x ∷ filter t xs) (filter t xs)) same.0 ∙ ap (λ (ys : List Extent). cond (u x) (x ∷ ys) ys) (filter_same t u xs same.1)
 
--- no block begins from a place up to another
-pub below_same : (low high : ℕ) (xs : List Extent) → low ≤ high → Each (λ x. (x.0 < low) ⊎ (high ≤ x.0)) xs → blocks_below high xs ≡ blocks_below low xs
-below_same low high xs up away = filter_same (λ x. nat_lt x.0 high) (λ x. nat_lt x.0 low) xs (Each-map (λ x. (x.0 < low) ⊎ (high ≤ x.0)) (λ x. nat_lt x.0 high ≡ nat_lt x.0 low) (λ x out. grind (arith, nat_tests)) xs away)
+pub each_filter : (P : Extent → Type 0) (t : Extent → Bool) (xs : List Extent) → Each P xs → Each P (filter t xs)
+each_filter P t [] all = tt
+each_filter P t (x ∷ xs) all = elim (cases_Bool (t x)) [
+  | inl e ↦ subst (Each P) (sym (filter_takes t x xs e)) (all.0, each_filter P t xs all.1)
+  | inr e ↦ subst (Each P) (sym (filter_skips t x xs e)) (each_filter P t xs all.1)
+]
+
+-- of the blocks that pass a test, whose answer at the others is the same before the block at b and behind it
+pub record Split (T : ℕ → Extent → Bool) (b n : ℕ) (live : List Extent) : Type 0 where
+  pub front : List Extent
+  pub back : List Extent
+  pub before : filter (T b) live ≡ front ++ cond (T b (b, n)) ((b, n) ∷ back) back
+  pub behind : filter (T (b + n)) live ≡ front ++ cond (T (b + n) (b, n)) ((b, n) ∷ back) back
+  pub away : Each (λ y. (y.0 < b) ⊎ (b + n ≤ y.0)) (front ++ back)
+
+-- whether a test answers the same at two places for the blocks that begin at neither and nowhere between
+abbrev pub IsSteady : (ℕ → Extent → Bool) → Type 0
+IsSteady T = (low high : ℕ) (x : Extent) → low ≤ high → (x.0 < low) ⊎ (high ≤ x.0) → T high x ≡ T low x
+
+pub filter_steady : (T : ℕ → Extent → Bool) → IsSteady T → (low high : ℕ) (xs : List Extent) → low ≤ high → Each (λ x. (x.0 < low) ⊎ (high ≤ x.0)) xs → filter (T high) xs ≡ filter (T low) xs
+filter_steady T steady low high xs up away = filter_same (T high) (T low) xs (Each-map (λ x. (x.0 < low) ⊎ (high ≤ x.0)) (λ x. T high x ≡ T low x) (λ x out. steady low high x up out) xs away)
+
+pub split_at : (T : ℕ → Extent → Bool) → IsSteady T → (b n : ℕ) (live : List Extent) → Among b n live → Split T b n live
+split_at T steady b n live a =
+    let F = a.front in
+    let L = a.back in
+    let x : Extent = (b, n) in
+    let Away : Extent → Type 0 = λ y. (y.0 < b) ⊎ (b + n ≤ y.0) in
+    let up : Each Away F = Each-left Away F L a.away in
+    let back : Each Away L = Each-right Away F L a.away in
+    let both : (k : ℕ) → filter (T k) live ≡ filter (T k) F ++ cond (T k x) (x ∷ filter (T k) L) (filter (T k) L) = λ k. ap (filter (T k)) a.is ∙ filter_both (T k) F (x ∷ L) in
+    record {
+      front = filter (T b) F;
+      back = filter (T b) L;
+      before = both b;
+      behind = both (b + n)
+          ∙ ap (λ (ys : List Extent). ys ++ cond (T (b + n) x) (x ∷ filter (T (b + n)) L) (filter (T (b + n)) L)) (filter_steady T steady b (b + n) F (omega arith) up)
+          ∙ ap (λ (ys : List Extent). filter (T b) F ++ cond (T (b + n) x) (x ∷ ys) ys) (filter_steady T steady b (b + n) L (omega arith) back);
+      away = Each-join Away (filter (T b) F) (filter (T b) L) (each_filter Away (T b) F up) (each_filter Away (T b) L back);
+    }
+
+-- the test of beginning below a place
+pub below_steady : IsSteady (λ place x. nat_lt x.0 place)
+below_steady low high x up out = grind (arith, nat_tests)

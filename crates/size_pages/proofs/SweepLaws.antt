@@ -1,11 +1,11 @@
 -- The slots of a page are swept one after another.
-use Rattle.std.proofs.Common.{◌≡◌, ◌≢◌, ℕ, ◌+◌, ◌-◌, ◌*◌, ◌/◌, ◌<◌, ◌≤◌, ◌⊎◌, inl, inr, Bool, true, false, ◌&&◌, not, ◌==◌, if◌then◌else◌, nat_lt, List, [], ◌∷◌, ◌++◌, arith, refl, sym, ◌∙◌, ap, subst}
+use Rattle.std.proofs.Common.{◌≡◌, ◌≢◌, ℕ, ◌+◌, ◌-◌, ◌*◌, ◌/◌, ◌<◌, ◌≤◌, ◌⊎◌, inl, inr, Bool, true, false, ◌&&◌, not, ◌==◌, if◌then◌else◌, cond, nat_lt, List, [], ◌∷◌, ◌++◌, arith, refl, sym, ◌∙◌, ap, subst}
 use Rattle.std.proofs.lemmas.Bool.{cases_Bool}
 use Rattle.std.proofs.lemmas.Bool.Decides.{eqb_tells, nat_tests}
 use Rattle.std.specs.List.{filter}
 use Rattle.heap_space.specs.Memory.{Memory}
 use Rattle.heap_space.specs.Extents.{Extent, Each, IsInside, IsApart, KeepsWords, begins_between}
-use Rattle.heap_space.proofs.ExtentLaws.{Each-map, Each-both, Each-left, Each-right, Each-into, Each-out}
+use Rattle.heap_space.proofs.ExtentLaws.{Each-map, Each-both, Each-into, Each-out}
 use Rattle.object_header.specs.Words.{has_flag, without_flag}
 use Rattle.object_header.specs.declared.flags.Flag.TheVariants.{Free, Visited}
 use Rattle.size_pages.specs.PageWords.{Words, word_in, CanStore, IsInArenas, IsStored, GivesBack}
@@ -22,11 +22,11 @@ use Rattle.size_pages.proofs.ArenaLaws.{arenas_then, arenas_same, can_store_afte
 use Rattle.size_pages.proofs.GiveLaws.{page_number}
 use Rattle.size_pages.proofs.OrderLaws.{HasBlocks_front}
 use Rattle.size_pages.proofs.FrameLaws.{HasBlocks_untouched}
-use Rattle.size_pages.proofs.SplitLaws.{Among, each_middle, filter_both, filter_same}
+use Rattle.size_pages.proofs.SplitLaws.{Among, each_middle, each_filter, filter_same, filter_steady, IsSteady, below_steady, split_at}
 use Rattle.size_pages.proofs.ChoiceLaws.{waiting_pages}
 use Rattle.size_pages.proofs.SlotLaws.{AreAway}
-use Rattle.size_pages.proofs.ListingLaws.{filter_yes, filter_no}
-use Rattle.size_pages.proofs.GatherLaws.{swept_page, sweep_page_is, at_free, at_live, page_part, in_page_cases}
+use Rattle.size_pages.proofs.FitLaws.{filter_takes}
+use Rattle.size_pages.proofs.GatherLaws.{and_false, and_true, swept_page, sweep_page_is, at_free, at_live, page_part, in_page_cases}
 
 -- whether a block stays where the slots below a place are swept
 abbrev pub stays : (Extent → Bool) → ℕ → Extent → Bool
@@ -44,15 +44,8 @@ pub record SweptTo (pages : Pages) (m after : Memory) (page place : ℕ) : Type 
   pub later : (e : ℕ) → place ≤ e → e < page + pages.page → word_in after e ≡ word_in m e
   pub arenas : IsInArenas m after
 
-each_filter : (P : Extent → Type 0) (t : Extent → Bool) (xs : List Extent) → Each P xs → Each P (filter t xs)
-each_filter P t [] all = tt
-each_filter P t (x ∷ xs) all = elim (cases_Bool (t x)) [
-  | inl e ↦ subst (Each P) (sym (filter_yes t x xs e)) (all.0, each_filter P t xs all.1)
-  | inr e ↦ subst (Each P) (sym (filter_no t x xs e)) (each_filter P t xs all.1)
-]
-
-stays_away : (d : Extent → Bool) (low high : ℕ) (xs : List Extent) → low ≤ high → AreAway low high xs → filter (stays d high) xs ≡ filter (stays d low) xs
-stays_away d low high xs up away = filter_same (stays d high) (stays d low) xs (Each-map (λ x. (x.0 < low) ⊎ (high ≤ x.0)) (λ x. stays d high x ≡ stays d low x) (λ x out. ap (λ (b : Bool). not (d x && b)) (let e : nat_lt x.0 high ≡ nat_lt x.0 low = grind (arith, nat_tests) in e)) xs away)
+stays_steady : (d : Extent → Bool) → IsSteady (stays d)
+stays_steady d low high x up out = ap (λ (b : Bool). not (d x && b)) (below_steady low high x up out)
 
 word_away : (w : Words) (size p low high : ℕ) (x : Extent) (a : ℕ) → low ≤ high → (x.0 < low) ⊎ (high ≤ x.0) → word_below w size p low x a ≡ word_below w size p high x a
 word_away w size p low high x a up out = ap (λ (b : Bool). if (in_page size p x && b) && (a == x.0) then without_flag (w a) Visited else w a) (let e : nat_lt x.0 low ≡ nat_lt x.0 high = grind (arith, nat_tests) in e)
@@ -66,8 +59,8 @@ pub swept_free : (pages : Pages) (m after : Memory) (page low high : ℕ) → lo
 swept_free pages m after page low high up away t =
     let d = dies (word_in m) pages.page page in
     record {
-      fits = λ live rest h. subst (λ (xs : List Extent). HasBlocks pages after xs (page ∷ rest)) (sym (stays_away d low high live up (away live rest h))) (t.fits live rest h);
-      words = λ live rest h. subst (Each (λ x. (a : ℕ) → IsInside x a → word_in after a ≡ word_below (word_in m) pages.page page high x a)) (sym (stays_away d low high live up (away live rest h)))
+      fits = λ live rest h. subst (λ (xs : List Extent). HasBlocks pages after xs (page ∷ rest)) (sym (filter_steady (stays d) (stays_steady d) low high live up (away live rest h))) (t.fits live rest h);
+      words = λ live rest h. subst (Each (λ x. (a : ℕ) → IsInside x a → word_in after a ≡ word_below (word_in m) pages.page page high x a)) (sym (filter_steady (stays d) (stays_steady d) low high live up (away live rest h)))
           (words_away (word_in m) (word_in after) pages.page page low high (filter (stays d low) live) up (each_filter (λ x. (x.0 < low) ⊎ (high ≤ x.0)) (stays d low) live (away live rest h)) (t.words live rest h));
       later = λ e low_e high_e. t.later e (omega arith) high_e;
       arenas = t.arenas;
@@ -86,35 +79,20 @@ pub record StaysAt (d : Extent → Bool) (b n : ℕ) (live : List Extent) : Type
   pub kept : d (b, n) ≡ false → filter (stays d (b + n)) live ≡ front ++ (b, n) ∷ back
   pub away : AreAway b (b + n) (front ++ back)
 
-and_no : (b : Bool) → (b && false) ≡ false
-and_no true = refl
-and_no false = refl
-
-each_joined : (P : Extent → Type 0) (xs ys : List Extent) → Each P xs → Each P ys → Each P (xs ++ ys)
-each_joined P [] ys all more = more
-each_joined P (x ∷ xs) ys all more = (all.0, each_joined P xs ys all.1 more)
-
 pub stays_at : (d : Extent → Bool) (b n : ℕ) (live : List Extent) → 0 < n → Among b n live → StaysAt d b n live
 stays_at d b n live some a =
-    let F = a.front in
-    let L = a.back in
+    let s = split_at (stays d) (stays_steady d) b n live a in
     let x : Extent = (b, n) in
-    let up = Each-left (λ y. (y.0 < b) ⊎ (b + n ≤ y.0)) F L a.away in
-    let back = Each-right (λ y. (y.0 < b) ⊎ (b + n ≤ y.0)) F L a.away in
-    let here : nat_lt b (b + n) ≡ true = grind (arith, nat_tests) in
-    let not_yet : nat_lt b b ≡ false = grind (arith, nat_tests) in
-    let fs : filter (stays d (b + n)) F ≡ filter (stays d b) F = stays_away d b (b + n) F (omega arith) up in
-    let ls : filter (stays d (b + n)) L ≡ filter (stays d b) L = stays_away d b (b + n) L (omega arith) back in
-    let both : (k : ℕ) → filter (stays d k) live ≡ filter (stays d k) F ++ filter (stays d k) (x ∷ L) = λ k. ap (filter (stays d k)) a.is ∙ filter_both (stays d k) F (x ∷ L) in
+    let less : nat_lt b (b + n) ≡ true = grind (arith, nat_tests) in
+    let same : nat_lt b b ≡ false = grind (arith, nat_tests) in
+    let with_or : Bool → List Extent = λ c. s.front ++ cond c (x ∷ s.back) s.back in
     record {
-      front = filter (stays d b) F;
-      back = filter (stays d b) L;
-      was = both b ∙ ap (λ (ys : List Extent). filter (stays d b) F ++ ys) (filter_yes (stays d b) x L (ap (λ (c : Bool). not (d x && c)) not_yet ∙ ap not (and_no (d x))));
-      gone = λ dead. both (b + n) ∙ ap (λ (ys : List Extent). ys ++ filter (stays d (b + n)) (x ∷ L)) fs
-          ∙ ap (λ (ys : List Extent). filter (stays d b) F ++ ys) (filter_no (stays d (b + n)) x L (ap (λ (c : Bool). not (c && nat_lt b (b + n))) dead ∙ ap not here) ∙ ls);
-      kept = λ lives. both (b + n) ∙ ap (λ (ys : List Extent). ys ++ filter (stays d (b + n)) (x ∷ L)) fs
-          ∙ ap (λ (ys : List Extent). filter (stays d b) F ++ ys) (filter_yes (stays d (b + n)) x L (ap (λ (c : Bool). not (c && nat_lt b (b + n))) lives) ∙ ap (λ (ys : List Extent). x ∷ ys) ls);
-      away = each_joined (λ y. (y.0 < b) ⊎ (b + n ≤ y.0)) (filter (stays d b) F) (filter (stays d b) L) (each_filter (λ y. (y.0 < b) ⊎ (b + n ≤ y.0)) (stays d b) F up) (each_filter (λ y. (y.0 < b) ⊎ (b + n ≤ y.0)) (stays d b) L back);
+      front = s.front;
+      back = s.back;
+      was = s.before ∙ ap with_or (ap (λ (c : Bool). not (d x && c)) same ∙ ap not (and_false (d x)));
+      gone = λ dead. s.behind ∙ ap with_or (ap (λ (c : Bool). not (c && nat_lt b (b + n))) dead ∙ ap not less);
+      kept = λ lives. s.behind ∙ ap with_or (ap (λ (c : Bool). not (c && nat_lt b (b + n))) lives);
+      away = s.away;
     }
 
 if_no : (c : Bool) (x y : ℕ) → (if c && false then x else y) ≡ y
@@ -170,7 +148,7 @@ module _ (pages : Pages) (m after new : Memory) (page b n : ℕ) (two : 2 ≤ n)
         let f = first_fits live rest h in
         let is_page = (waiting_pages (word_in after) pages.page pages.count pages.heads.items (page ∷ rest) f.lists).0.is_page in
         subst (Each (λ y. (a : ℕ) → IsInside y a → word_in new a ≡ word_below (word_in m) pages.page page (b + n) y a)) (sym (x.gone dead))
-        (others_words live rest h (given_keeps pages after new page b n 0 0 two is_page g (x.front ++ x.back) (page ∷ rest) f));
+        (others_words live rest h (given_keeps pages after new page b n 0 two is_page g (x.front ++ x.back) (page ∷ rest) f));
     later = λ e from upto. g.rest e (omega arith) (omega arith) (omega arith) (omega arith) ∙ t.later e (omega arith) upto;
     arenas = arenas_then m after new t.arenas s;
   }
@@ -233,10 +211,6 @@ swept_words pages m after new page place same s t = record {
   later = λ e low high. same e ∙ t.later e low high;
   arenas = arenas_then m after new t.arenas s;
 }
-
-and_yes : (v : Bool) → (v && true) ≡ v
-and_yes true = refl
-and_yes false = refl
 
 and_swap : (p q r : Bool) → (p && r) ≡ false → ((p && q) && r) ≡ false
 and_swap true true r e = e
@@ -310,7 +284,7 @@ module _ (pages : Pages) (m after : Memory) (page class : ℕ) (c : CanSweepAt p
 
 filter_all : (t : Extent → Bool) (xs : List Extent) → Each (λ x. t x ≡ true) xs → filter t xs ≡ xs
 filter_all t [] all = refl
-filter_all t (x ∷ xs) all = filter_yes t x xs all.0 ∙ ap (λ (ys : List Extent). x ∷ ys) (filter_all t xs all.1)
+filter_all t (x ∷ xs) all = filter_takes t x xs all.0 ∙ ap (λ (ys : List Extent). x ∷ ys) (filter_all t xs all.1)
 
 -- before the first slot nothing is swept
 pub swept_none : (pages : Pages) (m : Memory) (page class : ℕ) → CanSweepAt pages m page → class ≡ word_in m page → SweptTo pages m m page (page + 8 + 0 * class)
@@ -320,7 +294,7 @@ swept_none pages m page class c is_class =
     let place = page + 8 + 0 * class in
     let early : (live : List Extent) (rest : List ℕ) → HasHeaders pages m live (page ∷ rest) → Each (λ x. (in_page pages.page page x && nat_lt x.0 place) ≡ false) live = λ live rest h.
     Each-map (λ x. in_page pages.page page x ≡ true → (page + 8 ≤ x.0) × (x.0 < word_in m (page + 3))) (λ x. (in_page pages.page page x && nat_lt x.0 place) ≡ false) (λ x part. elim (in_page_cases pages.page page x) [
-      | inl e ↦ (let low : page + 8 ≤ x.0 = (part e).0 in ap (λ (v : Bool). in_page pages.page page x && v) (let l : nat_lt x.0 place ≡ false = grind (arith, nat_tests) in l) ∙ and_no (in_page pages.page page x))
+      | inl e ↦ (let low : page + 8 ≤ x.0 = (part e).0 in ap (λ (v : Bool). in_page pages.page page x && v) (let l : nat_lt x.0 place ≡ false = grind (arith, nat_tests) in l) ∙ and_false (in_page pages.page page x))
       | inr e ↦ ap (λ (v : Bool). v && nat_lt x.0 place) e
     ]) live (page_part pages m page class g.can is_class (λ z. g.used (sym is_class ∙ z)) live (page ∷ rest) h) in
     let all : (live : List Extent) (rest : List ℕ) → HasHeaders pages m live (page ∷ rest) → filter (stays d place) live ≡ live = λ live rest h. filter_all (stays d place) live (Each-map (λ x. (in_page pages.page page x && nat_lt x.0 place) ≡ false) (λ x. stays d place x ≡ true) (λ x e. ap not (and_swap (in_page pages.page page x) (is_dead (word_in m x.0)) (nat_lt x.0 place) e)) live (early live rest h)) in
@@ -340,7 +314,7 @@ swept_all pages m after page place class c is_class is_last t =
     let d = dies w pages.page page in
     let late : (live : List Extent) (rest : List ℕ) → HasHeaders pages m live (page ∷ rest) → Each (λ x. (in_page pages.page page x && nat_lt x.0 place) ≡ in_page pages.page page x) live = λ live rest h.
     Each-map (λ x. in_page pages.page page x ≡ true → (page + 8 ≤ x.0) × (x.0 < w (page + 3))) (λ x. (in_page pages.page page x && nat_lt x.0 place) ≡ in_page pages.page page x) (λ x part. elim (in_page_cases pages.page page x) [
-      | inl e ↦ (let up : x.0 < w (page + 3) = (part e).1 in ap (λ (v : Bool). in_page pages.page page x && v) (let l : nat_lt x.0 place ≡ true = grind (arith, nat_tests) in l) ∙ and_yes (in_page pages.page page x))
+      | inl e ↦ (let up : x.0 < w (page + 3) = (part e).1 in ap (λ (v : Bool). in_page pages.page page x && v) (let l : nat_lt x.0 place ≡ true = grind (arith, nat_tests) in l) ∙ and_true (in_page pages.page page x))
       | inr e ↦ ap (λ (v : Bool). v && nat_lt x.0 place) e ∙ sym e
     ]) live (page_part pages m page class g.can is_class (λ z. g.used (sym is_class ∙ z)) live (page ∷ rest) h) in
     let all : (live : List Extent) (rest : List ℕ) → HasHeaders pages m live (page ∷ rest) → filter (stays d place) live ≡ kept_blocks w pages.page page live = λ live rest h. filter_same (stays d place) (λ x. not (d x)) live (Each-map (λ x. (in_page pages.page page x && nat_lt x.0 place) ≡ in_page pages.page page x) (λ x. stays d place x ≡ not (d x)) (λ x e. ap not (and_same (in_page pages.page page x) (is_dead (w x.0)) (nat_lt x.0 place) e)) live (late live rest h)) in

@@ -5,17 +5,17 @@ use Rattle.heap_space.specs.Memory.{Memory}
 use Rattle.heap_space.specs.Extents.{Extent}
 use Rattle.size_pages.specs.PageWords.{Words, word_in, IsInArenas, IsBlockOf, PageHolds, TakesChained, TakesFresh}
 use Rattle.size_pages.specs.LiveBlocks.{page_at, blocks_of, BlocksFit, PageIs}
-use Rattle.size_pages.specs.PageLists.{EachPlace, first_of_list, IsPage, list_number, list_of, IsListedRightly, SameSigns, HasRoom}
+use Rattle.size_pages.specs.PageLists.{EachPlace, first_of_list, IsPage, list_number, list_of, IsListedRightly, SameSigns}
 use Rattle.size_pages.specs.HasBlocks.{HasBlocksBut, HasBlocks, Stands}
-use Rattle.size_pages.specs.Steps.{CanTake, CanTakeUnlisted, CanTakeOff, CanPutOn, IsOnlyHeads}
+use Rattle.size_pages.specs.Steps.{CanTake, CanTakeFrom, CanTakeUnlisted, IsOpen, CanPutOn, IsOnlyHeads}
 use Rattle.size_pages.specs.Calls.{page_of}
-use Rattle.size_pages.specs.Growth.{IsOnlyOrder}
 use Rattle.size_pages.specs.declared.Pages.{Pages}
+use Rattle.size_pages.proofs.ListMoves.{SameLinks}
 use Rattle.size_pages.proofs.PageLaws.{holds_chained, holds_fresh}
 use Rattle.size_pages.proofs.FitLaws.{fits_more, stays_elsewhere}
-use Rattle.size_pages.proofs.FitsLaws.{fits_new, page_facts, header_has, below_of, places_of}
-use Rattle.size_pages.proofs.GiveLaws.{page_number, IsOnlyPage, lists_inner, classes_one, only_same}
-use Rattle.size_pages.proofs.EndLaws.{heads_long, order_fits}
+use Rattle.size_pages.proofs.FitsLaws.{page_facts, header_has, below_of, places_of}
+use Rattle.size_pages.proofs.GiveLaws.{page_number, IsOnlyPage, page_changes}
+use Rattle.size_pages.proofs.EndLaws.{heads_long}
 
 -- the blocks of a page of n words
 pub record ClassPage (w : Words) (size p n : ℕ) (live : List Extent) : Type 0 where
@@ -43,7 +43,7 @@ head_of w size p n (x ∷ fs) live h class some =
     let wide : x.1 ≡ n = h.blocks.0.0 ∙ class in
     record { rest = fs; holds = subst (λ (a : ℕ). PageHolds w size p ((a, n) ∷ fs) live) place (subst (λ (k : ℕ). PageHolds w size p ((x.0, k) ∷ fs) live) wide h) }
 
-pub can_take : (pages : Pages) (m : Memory) (page n : ℕ) → CanTakeUnlisted pages m page n → CanTake m page n
+pub can_take : {except : ℕ} (pages : Pages) (m : Memory) (page n : ℕ) → CanTakeFrom pages m except page n → CanTake m page n
 can_take pages m page n c =
     let f = c.stands.fits in
     let size = pages.page in
@@ -57,7 +57,7 @@ can_take pages m page n c =
     let two : 2 ≤ n = c.low in
     let class : w page ≡ n = c.class in
     let small : n ≤ pages.small = c.small in
-    let small_high : pages.small + 8 ≤ size = f.small_high in
+    let small_high : pages.small + 8 ≤ size = f.setup.small_high in
     let q = class_page w size count page n c.stands.live f.blocks c.is_page class two in
     let h = q.holds in
     let fresh_low : page + 8 ≤ w (page + 3) = h.fresh_low in
@@ -82,7 +82,7 @@ pub record Taken (old new : Words) (p n x : ℕ) : Type 0 where
   pub fresh : old (p + 1) ≡ 0 → TakesFresh old new p x n
 
 -- the block lies in the page, behind its header
-pub taken_place : (pages : Pages) (m new : Memory) (page n x : ℕ) → CanTakeUnlisted pages m page n → Taken (word_in m) (word_in new) page n x → (page + 8 ≤ x) × (x + n ≤ page + pages.page)
+pub taken_place : {except : ℕ} (pages : Pages) (m new : Memory) (page n x : ℕ) → CanTakeFrom pages m except page n → Taken (word_in m) (word_in new) page n x → (page + 8 ≤ x) × (x + n ≤ page + pages.page)
 taken_place pages m new page n x c t =
     let f = c.stands.fits in
     let size = pages.page in
@@ -102,7 +102,7 @@ taken_place pages m new page n x c t =
           let high : w (page + 1) + n ≤ w (page + 3) = block.2 in (omega arith, omega arith))
     ]
 
-pub taken_page : (pages : Pages) (m new : Memory) (page n x : ℕ) → CanTakeUnlisted pages m page n → Taken (word_in m) (word_in new) page n x → page ≡ page_of pages.page x
+pub taken_page : {except : ℕ} (pages : Pages) (m new : Memory) (page n x : ℕ) → CanTakeFrom pages m except page n → Taken (word_in m) (word_in new) page n x → page ≡ page_of pages.page x
 taken_page pages m new page n x c t =
     let place = taken_place pages m new page n x c t in
     let size = pages.page in
@@ -114,8 +114,8 @@ taken_page pages m new page n x c t =
     let high : x + n ≤ page + size = place.1 in
     at ∙ ap (page_at size) (sym (page_number size k x wide (omega arith) (omega arith)))
 
-pub taken_fits : (pages : Pages) (m new : Memory) (page n x : ℕ) → CanTakeUnlisted pages m page n → Taken (word_in m) (word_in new) page n x → IsInArenas m new → (live : List Extent) (waiting : List ℕ) (spare : ℕ) → HasBlocksBut pages m live waiting page spare → HasBlocksBut pages new ((x, n) ∷ live) waiting page spare
-taken_fits pages m new page n x c t s live waiting spare f =
+pub taken_from : {except : ℕ} (pages : Pages) (m new : Memory) (page n x : ℕ) → CanTakeFrom pages m except page n → Taken (word_in m) (word_in new) page n x → IsInArenas m new → (page ≢ except → SameLinks (word_in m) (word_in new) page × IsListedRightly (word_in new) pages.page page) → (live : List Extent) (waiting : List ℕ) → HasBlocksBut pages m live waiting except → HasBlocksBut pages new ((x, n) ∷ live) waiting except
+taken_from {except} pages m new page n x c t s listed live waiting f =
     let size = pages.page in
     let count = pages.count in
     let w = word_in m in
@@ -128,16 +128,12 @@ taken_fits pages m new page n x c t s live waiting spare f =
     let h = q.holds in
     let fresh_low : page + 8 ≤ w (page + 3) = h.fresh_low in
     let fresh_high : w (page + 3) ≤ page + size = h.fresh_high in
-    let make : (free : List Extent) → PageHolds now size page free ((x, n) ∷ blocks_of size page live) → IsOnlyPage w now page size → w page ≡ now page → now (page + 7) ≡ w (page + 7) → HasBlocksBut pages new ((x, n) ∷ live) waiting page spare = λ free holds only same last.
-    fits_new pages pages m new live ((x, n) ∷ live) waiting page page spare f (only_same pages) s
+    let make : (free : List Extent) → PageHolds now size page free ((x, n) ∷ blocks_of size page live) → IsOnlyPage w now page size → w page ≡ now page → now (page + 7) ≡ w (page + 7) → HasBlocksBut pages new ((x, n) ∷ live) waiting except = λ free holds only same last.
+    page_changes pages m new live ((x, n) ∷ live) waiting except page f c.is_page s only
     (fits_more w now size count c.is_page.number (x, n) free live c.is_page.below f.blocks
     (subst (λ (r : ℕ). PageHolds now size r free ((x, n) ∷ blocks_of size r live)) at holds)
     (stays_elsewhere w now size count c.is_page.number (subst (λ (r : ℕ). (e : ℕ) → (e < r) ⊎ (r + size ≤ e) → now e ≡ w e) at only)))
-    (classes_one w now size count pages.small pages.lowest pages.lowest c.is_page.number f.classes (omega arith) (subst (λ (r : ℕ). (e : ℕ) → (e < r) ⊎ (r + size ≤ e) → now e ≡ w e) at only) wide
-    (subst (λ (r : ℕ). now r ≤ pages.small) at (subst (λ (k : ℕ). k ≤ pages.small) (sym class ∙ same) c.small))
-    (λ below. subst (λ (r : ℕ). now r ≢ 0) at (λ z. let e : n ≡ 0 = sym class ∙ same ∙ z in omega arith))
-    (subst (λ (r : ℕ). now (r + 7) ≡ w (r + 7)) at last))
-    (lists_inner w now size count pages.heads.items waiting page page wide f.lists c.is_page only (λ ne. absurd (ne refl))) in
+    (subst (λ (k : ℕ). k ≤ pages.small) (sym class ∙ same) c.small) (λ z. omega (arith, sym class ∙ same ∙ z, two)) last listed in
     elim (eqb_tells (w (page + 1)) 0) [
       | inl z ↦
           let g = t.fresh z.1 in
@@ -161,6 +157,9 @@ taken_fits pages m new page n x c t s live waiting spare f =
           (sym (g.rest page (omega arith) (omega arith) (omega arith) (omega arith)))
           (g.rest (page + 7) (omega arith) (omega arith) (omega arith) (omega arith))
     ]
+
+pub taken_fits : (pages : Pages) (m new : Memory) (page n x : ℕ) → CanTakeUnlisted pages m page n → Taken (word_in m) (word_in new) page n x → IsInArenas m new → (live : List Extent) (waiting : List ℕ) → HasBlocksBut pages m live waiting page → HasBlocksBut pages new ((x, n) ∷ live) waiting page
+taken_fits pages m new page n x c t s = taken_from pages m new page n x c t s (λ ne. absurd (ne refl))
 
 pub record TakenSigns (old new : Words) (p : ℕ) : Type 0 where
   pub class : new p ≡ old p
@@ -199,10 +198,10 @@ can_put_back pages m new page n x kind c t s known room full =
     let low : 1 ≤ kind = elim known [ inl a ↦ omega arith | inr b ↦ omega arith ] in
     let high : kind ≤ 2 = elim known [ inl a ↦ omega arith | inr b ↦ omega arith ] in
     record {
-      stands = record { live = (x, n) ∷ c.stands.live; waiting = c.stands.waiting; spare = c.stands.spare; fits = taken_fits pages m new page n x c t s c.stands.live c.stands.waiting c.stands.spare c.stands.fits };
+      stands = record { live = (x, n) ∷ c.stands.live; waiting = c.stands.waiting; fits = taken_fits pages m new page n x c t s c.stands.live c.stands.waiting c.stands.fits };
       is_page = c.is_page;
       is_list = list_is kind (now page) n class known;
-      not_waiting = omega arith;
+      low = omega arith;
       in_heads = heads_long c.stands.fits page (2 * n + (kind - 1)) c.is_page (omega arith);
       right = record {
         known = omega arith;
@@ -214,12 +213,6 @@ can_put_back pages m new page n x kind c t s known room full =
       };
     }
 
--- the first page of the list of those with room
-pub record FirstWithRoom (pages : Pages) (m : Memory) (page n : ℕ) : Type 0 where
-  pub off : CanTakeOff pages m page (2 * n)
-  pub class : word_in m page ≡ n
-  pub room : HasRoom (word_in m) pages.page page
-
 kind_room : (kind class n : ℕ) → 2 ≤ n → kind ≤ 3 → list_number kind class ≡ 2 * n → (kind ≡ 1) × (class ≡ n)
 kind_room kind class n two high e = grind (arith, nat_tests)
 
@@ -227,7 +220,7 @@ first_one : (xs : List ℕ) (page : ℕ) (P : ℕ → Type 0) → page ≢ 0 →
 first_one [] page P n e all = absurd (n e)
 first_one (x ∷ xs) page P n e all = subst P (sym e) all.0
 
-pub first_with_room : (pages : Pages) (m : Memory) (page n : ℕ) → Stands pages m → 2 ≤ n → page ≢ 0 → page ≡ slice_index pages.heads.items (2 * n) → FirstWithRoom pages m page n
+pub first_with_room : (pages : Pages) (m : Memory) (page n : ℕ) → Stands pages m → 2 ≤ n → page ≢ 0 → page ≡ slice_index pages.heads.items (2 * n) → IsOpen pages m page n
 first_with_room pages m page n st two ne is =
     let f = st.fits in
     let w = word_in m in
@@ -239,12 +232,13 @@ first_with_room pages m page n st two ne is =
     let right : IsListedRightly w pages.page page = subst (λ (q : ℕ). IsListedRightly w pages.page q) (sym at) (f.lists.rightly is_page.number is_page.below (omega arith)) in
     let known = kind_room (w (page + 6)) (w page) n two right.known on.0 in
     record {
-      off = record { stands = st; is_page = is_page; is_list = sym on.0; not_waiting = omega arith };
+      off = record { stands = st; is_page = is_page; is_list = sym on.0; low = omega arith };
       class = known.1;
+      kind = known.0;
       room = right.room known.0;
     }
 
-pub can_take_first : (pages p2 : Pages) (m m2 : Memory) (page n : ℕ) → Stands pages m → 2 ≤ n → n ≤ pages.small → page ≢ 0 → page ≡ slice_index pages.heads.items (2 * n) → ((live : List Extent) (waiting : List ℕ) → HasBlocks pages m live waiting → HasBlocksBut p2 m2 live waiting page 0) → SameSigns (word_in m) (word_in m2) page → IsOnlyHeads pages p2 → CanTakeUnlisted p2 m2 page n
+pub can_take_first : (pages p2 : Pages) (m m2 : Memory) (page n : ℕ) → Stands pages m → 2 ≤ n → n ≤ pages.small → page ≢ 0 → page ≡ slice_index pages.heads.items (2 * n) → ((live : List Extent) (waiting : List ℕ) → HasBlocks pages m live waiting → HasBlocksBut p2 m2 live waiting page) → SameSigns (word_in m) (word_in m2) page → IsOnlyHeads pages p2 → CanTakeUnlisted p2 m2 page n
 can_take_first pages p2 m m2 page n st two small ne is off signs only =
     let g = first_with_room pages m page n st two ne is in
     let chain : word_in m2 (page + 1) ≡ word_in m (page + 1) = signs.chain in
@@ -252,7 +246,7 @@ can_take_first pages p2 m m2 page n st two small ne is off signs only =
     let class : word_in m2 page ≡ word_in m page = signs.class in
     let size : p2.page ≡ pages.page = only.page in
     record {
-      stands = record { live = st.live; waiting = st.waiting; spare = 0; fits = off st.live st.waiting st.fits };
+      stands = record { live = st.live; waiting = st.waiting; fits = off st.live st.waiting st.fits };
       is_page = subst (λ (k : ℕ). IsPage k p2.count page) (sym only.page) (subst (λ (k : ℕ). IsPage pages.page k page) (sym only.count) g.off.is_page);
       class = class ∙ g.class;
       low = two;
@@ -262,6 +256,3 @@ can_take_first pages p2 m m2 page n st two small ne is off signs only =
 
 pub stands_on : (pages after : Pages) (m : Memory) → Stands pages m → ((live : List Extent) (waiting : List ℕ) → HasBlocks pages m live waiting → HasBlocks after m live waiting) → Stands after m
 stands_on pages after m s keeps = record { live = s.live; waiting = s.waiting; fits = keeps s.live s.waiting s.fits }
-
-pub same_stands : (pages after : Pages) (m new : Memory) (live : List Extent) (waiting : List ℕ) → IsOnlyOrder pages after → new ≡ m → HasBlocks pages m live waiting → HasBlocks after new live waiting
-same_stands pages after m new live waiting o g f = order_fits pages after new live waiting 0 0 o (subst (λ (k : Memory). HasBlocks pages k live waiting) (sym g) f)

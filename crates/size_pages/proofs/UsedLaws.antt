@@ -126,7 +126,7 @@ in_order pages m c n items order is long moved sorted =
           let no3 : w (p + 6) ≢ 3 = λ three. (waits_exactly pages m p c.live [] f page).0 three in
           let number : 2 * w p + (w (p + 6) - 1) ≡ list_of w p = number_of_list (w (p + 6)) (w p) (w p) refl low no3 in
           let most : list_of w p < length pages.heads.items = heads_long f p (list_of w p) page (omega (arith, number, f.classes.small k below, right.known, no3)) in
-          times_in p order (omega (arith, same p, in_gathered w size pages.count pages.heads.items [] f.lists n (list_of w p) p (omega (arith, number, two)) (omega (arith, most, long)) (f.lists.listed k below (omega arith))));
+          times_in p order (omega (arith, same p, in_gathered w size pages.count pages.heads.items [] f.lists n (list_of w p) p (omega (arith, number, two)) (omega (arith, most, long)) (f.lists.listed k below used (omega arith))));
     }
 
 pub gathered_next : (m : Memory) (lists : ℕ → List ℕ) (list first : ℕ) (was now : List ℕ) → 2 ≤ list → IsListFrom m first (lists list) → was ≡ gathered lists (list - 2) → ((xs : List ℕ) → IsListFrom m first xs → now ≡ was ++ xs) → now ≡ gathered lists ((list + 1) - 2)

@@ -1,15 +1,16 @@
 -- Pages that wait for a sweep.
-use Rattle.std.proofs.Common.{◌≡◌, ℕ, ◌+◌, inl, inr, List, [], ◌∷◌, IsTrue, nat_eq, arith, sym, ap, subst}
+use Rattle.std.proofs.Common.{◌≡◌, ◌≢◌, ℕ, ◌+◌, inl, inr, List, [], ◌∷◌, IsTrue, nat_eq, arith, sym, ap, subst}
 use Rattle.std.proofs.lemmas.Bool.Decides.{nat_tests}
 use Rattle.std.specs.Prelude.{◌↔◌}
 use Rattle.heap_space.specs.Memory.{Memory}
 use Rattle.heap_space.specs.Extents.{Extent}
 use Rattle.size_pages.specs.PageWords.{word_in, CanStore}
 use Rattle.size_pages.specs.LiveBlocks.{page_at}
-use Rattle.size_pages.specs.PageLists.{EachPlace, IsIn, IsPage, list_number, list_of}
+use Rattle.size_pages.specs.PageLists.{EachPlace, IsIn, IsPage, IsListedRightly, list_number, list_of}
 use Rattle.size_pages.specs.HasBlocks.{HasBlocks}
 use Rattle.size_pages.specs.Calls.{page_of, BeginsLive}
 use Rattle.size_pages.specs.declared.Pages.{Pages}
+use Rattle.size_pages.proofs.ListMoves.{used_list}
 use Rattle.size_pages.proofs.EndLaws.{give_facts}
 use Rattle.size_pages.proofs.ChoiceLaws.{IsWaitingPage, waiting_pages}
 
@@ -22,9 +23,10 @@ waits_exactly pages m page live waiting f is =
     let w = word_in m in
     let size = pages.page in
     let at : page_at size is.number ≡ page = sym is.is in
-    let listed : IsIn (page_at size is.number) (f.lists.lists (list_of w (page_at size is.number))) = f.lists.listed is.number is.below (omega arith) in
-    let here : IsIn page (f.lists.lists (list_of w page)) = subst (λ (q : ℕ). IsIn q (f.lists.lists (list_of w q))) at listed in (
-      λ k. subst (λ (xs : List ℕ). IsIn page xs) f.lists.waits (subst (λ (t : ℕ). IsIn page (f.lists.lists t)) (let e : list_of w page ≡ 1 = ap (λ (t : ℕ). list_number t (w page)) k in e) here),
+    let here : w page ≢ 0 → IsIn page (f.lists.lists (list_of w page)) = subst (λ (q : ℕ). w q ≢ 0 → IsIn q (f.lists.lists (list_of w q))) at (λ used. f.lists.listed is.number is.below used (omega arith)) in
+    let one : w (page + 6) ≡ 3 → list_of w page ≡ 1 = λ k. ap (λ (t : ℕ). list_number t (w page)) k in
+    let used : w (page + 6) ≡ 3 → w page ≢ 0 = λ k. used_list w size page 1 (subst (λ (q : ℕ). IsListedRightly w size q) at (f.lists.rightly is.number is.below (omega arith))) (sym (one k)) (λ z. omega (arith, z)) in (
+      λ k. subst (λ (xs : List ℕ). IsIn page xs) f.lists.waits (subst (λ (t : ℕ). IsIn page (f.lists.lists t)) (one k) (here (used k))),
       λ i. (each_in (IsWaitingPage w size pages.count) waiting page (waiting_pages w size pages.count pages.heads.items waiting f.lists) i).kind,
     )
 

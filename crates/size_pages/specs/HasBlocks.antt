@@ -32,36 +32,42 @@ IsRising (p ∷ ps) = EachPlace (λ q. p < q) ps × IsRising ps
 abbrev pub IsPlaced : Memory → ℕ → ℕ → Type 0
 IsPlaced m size k = IsTrue (lies_within (extents_between 4294967296 m.next_arena m) (page_at size k) size)
 
+-- the numbers that pages are made with, and the words of an arena
+pub record HasSetup (size per_arena small arena_words : ℕ) : Type 0 where
+  pub size_high : size ≤ 8192
+  pub arena_low : 1 ≤ per_arena
+  pub arena_high : per_arena ≤ 1024
+  pub small_low : 2 ≤ small
+  pub small_high : small + 8 ≤ size
+  pub arena_size : arena_words ≡ size * per_arena
+
+-- the arenas are so many pages, one behind the other
+pub record HasArenas (m : Memory) (size count : ℕ) : Type 0 where
+  pub end : m.next_arena ≡ page_at size count
+  pub below : page_at size count ≤ 1099511627776
+  pub placed : (k : ℕ) → k < count → IsPlaced m size k
+
 -- these are the live blocks and the waiting pages, where the page at `except` is on no list for the moment
--- and the last `spare` pages are not counted yet
-pub record HasBlocksBut (pages : Pages) (m : Memory) (live : List Extent) (waiting : List ℕ) (except spare : ℕ) : Type 0 where
-  pub size_high : pages.page ≤ 8192
-  pub arena_low : 1 ≤ pages.pages_per_arena
-  pub arena_high : pages.pages_per_arena ≤ 1024
-  pub small_low : 2 ≤ pages.small
-  pub small_high : pages.small + 8 ≤ pages.page
-  pub arena_size : m.arena_words ≡ pages.page * pages.pages_per_arena
-  pub end : m.next_arena ≡ page_at pages.page (pages.count + spare)
-  pub below : page_at pages.page (pages.count + spare) ≤ 1099511627776
-  pub placed : (k : ℕ) → k < pages.count + spare → IsPlaced m pages.page k
+pub record HasBlocksBut (pages : Pages) (m : Memory) (live : List Extent) (waiting : List ℕ) (except : ℕ) : Type 0 where
+  pub setup : HasSetup pages.page pages.pages_per_arena pages.small m.arena_words
+  pub arenas : HasArenas m pages.page pages.count
   pub blocks : BlocksFit (word_in m) pages.page pages.count live
   pub classes : ClassesFit (word_in m) pages.page pages.count pages.small pages.lowest
   pub lists : ListsFit (word_in m) pages.page pages.count pages.heads.items waiting except
   pub heads : 0 < pages.count → 2 * pages.small + 2 ≤ length pages.heads.items
   pub waits : pages.waiting ≡ length waiting
   pub rising : IsRising waiting
-  pub room : pages.count + spare ≤ vec_capacity pages.order
+  pub room : pages.count ≤ vec_capacity pages.order
 
 -- these are the live blocks, in any order, and the waiting pages, by rising place
 abbrev pub HasBlocks : Pages → Memory → List Extent → List ℕ → Type 0
-HasBlocks pages m live waiting = HasBlocksBut pages m live waiting 0 0
+HasBlocks pages m live waiting = HasBlocksBut pages m live waiting 0
 
 -- so it stands for some live blocks and waiting pages
 pub record StandsBut (pages : Pages) (m : Memory) (except : ℕ) : Type 0 where
   pub live : List Extent
   pub waiting : List ℕ
-  pub spare : ℕ
-  pub fits : HasBlocksBut pages m live waiting except spare
+  pub fits : HasBlocksBut pages m live waiting except
 
 -- the space is as the earlier calls left it, but for writes inside live blocks and changes outside the arenas
 pub record Stands (pages : Pages) (m : Memory) : Type 0 where

@@ -5,6 +5,7 @@ pub mod HasBlocks
 pub mod Steps
 pub mod Growth
 pub mod Calls
+pub mod Moves
 pub mod SweepSteps
 pub mod Gathering
 pub mod Headers

@@ -39,7 +39,7 @@ pub record IsPage (size count p : ℕ) : Type 0 where
   pub below : number < count
   pub is : p ≡ page_at size number
 
--- which list: 0 the unused pages, 1 the waiting ones, and for each class those with room and the full ones
+-- which list: 0 for the unused pages, which are on none, 1 the waiting ones, and for each class those with room and the full ones
 abbrev pub list_number : ℕ → ℕ → ℕ
 list_number kind class = if kind == 0 then 0 else (if kind == 3 then 1 else 2 * class + (kind - 1))
 
@@ -64,16 +64,17 @@ pub record IsRight (kind : ℕ) (w : Words) (size p : ℕ) : Type 0 where
 abbrev pub IsListedRightly : Words → ℕ → ℕ → Type 0
 IsListedRightly w size p = IsRight (w (p + 6)) w size p
 
--- every page but `except` is on its list, and on no other
+-- every page in use but `except` is on its list, and on no other
 pub record ListsFit (w : Words) (size count : ℕ) (heads : List ℕ) (waiting : List ℕ) (except : ℕ) : Type 0 where
   pub lists : ℕ → List ℕ
+  pub none : lists 0 ≡ []
   pub waits : lists 1 ≡ waiting
   pub heads_are : (s : ℕ) → slice_index heads s ≡ first_of_list (lists s)
   pub linked : (s : ℕ) → Linked w 0 (lists s)
   pub distinct : (s : ℕ) → AreDistinct (lists s)
   pub pages : (s : ℕ) → EachPlace (IsPage size count) (lists s)
   pub right : (s : ℕ) → EachPlace (λ p. (list_of w p ≡ s) × (p ≢ except)) (lists s)
-  pub listed : (k : ℕ) → k < count → page_at size k ≢ except → IsIn (page_at size k) (lists (list_of w (page_at size k)))
+  pub listed : (k : ℕ) → k < count → w (page_at size k) ≢ 0 → page_at size k ≢ except → IsIn (page_at size k) (lists (list_of w (page_at size k)))
   pub rightly : (k : ℕ) → k < count → page_at size k ≢ except → IsListedRightly w size (page_at size k)
 
 -- the page is taken off the list s

@@ -93,13 +93,14 @@ pub record GivesBack (old new : Words) (p x : ℕ) : Type 0 where
   pub count : new (p + 2) + 1 ≡ old (p + 2)
   pub rest : SameBut old new (p + 1) (p + 2) x (x + 1)
 
--- the first words of the page's header become 0
+-- the page becomes one of no class, on no list
 pub record Clears (old new : Words) (p : ℕ) : Type 0 where
   pub class : new p ≡ 0
   pub chain : new (p + 1) ≡ 0
   pub count : new (p + 2) ≡ 0
   pub fresh : new (p + 3) ≡ 0
-  pub rest : SameBut old new p (p + 1) (p + 2) (p + 3)
+  pub kind : new (p + 6) ≡ 0
+  pub rest : (e : ℕ) → e ≢ p + 6 → e ≢ p → e ≢ p + 1 → e ≢ p + 2 → e ≢ p + 3 → new e ≡ old e
 
 -- the page gets the class n, with no block handed out
 pub record Starts (old new : Words) (p n : ℕ) : Type 0 where

@@ -1,5 +1,5 @@
 -- What the steps of the calls ask of the words, and what they change.
-use Rattle.std.specs.Prelude.{◌≡◌, ◌≢◌, ℕ, ◌+◌, ◌*◌, ◌<◌, ◌≤◌, ◌^◌, List, length, slice_index}
+use Rattle.std.specs.Prelude.{◌≡◌, ◌≢◌, ℕ, ◌+◌, ◌*◌, ◌<◌, ◌≤◌, ◌⊎◌, ◌^◌, List, length, slice_index}
 use Rattle.heap_space.specs.Memory.{Memory}
 use Rattle.size_pages.specs.PageWords.{Words, word_in, CanStore, HasAll}
 use Rattle.size_pages.specs.PageLists.{IsPage, IsRight, HasRoom, list_of, list_number}
@@ -58,19 +58,19 @@ pub record IsOnlyHeads (old new : Pages) : Type 0 where
   pub room : length new.heads.items ≡ length old.heads.items
   pub order : new.order ≡ old.order
 
--- the page is on that list, which is not that of the waiting ones
+-- the page is on that list of its class
 pub record CanTakeOff (pages : Pages) (m : Memory) (page list : ℕ) : Type 0 where
   pub stands : Stands pages m
   pub is_page : IsPage pages.page pages.count page
   pub is_list : list ≡ list_of (word_in m) page
-  pub not_waiting : list ≢ 1
+  pub low : 2 ≤ list
 
 -- the page is on no list, and its words call for that one
 pub record CanPutOn (pages : Pages) (m : Memory) (page list kind : ℕ) : Type 0 where
   pub stands : StandsBut pages m page
   pub is_page : IsPage pages.page pages.count page
   pub is_list : list ≡ list_number kind (word_in m page)
-  pub not_waiting : list ≢ 1
+  pub low : 2 ≤ list
   pub in_heads : list < length pages.heads.items
   pub right : IsRight kind (word_in m) pages.page page
 
@@ -95,19 +95,34 @@ pub record CanGiveFull (pages : Pages) (m : Memory) (page a n : ℕ) : Type 0 wh
   pub block : BlockIn pages.page pages.count page a n
   pub more : 2 ≤ word_in m (page + 2)
 
--- the page, on no list, has room for a block of n words
-pub record CanTakeUnlisted (pages : Pages) (m : Memory) (page n : ℕ) : Type 0 where
-  pub stands : StandsBut pages m page
+-- the page has room for a block of n words, where the page at `except` is on no list
+pub record CanTakeFrom (pages : Pages) (m : Memory) (except page n : ℕ) : Type 0 where
+  pub stands : StandsBut pages m except
   pub is_page : IsPage pages.page pages.count page
   pub class : word_in m page ≡ n
   pub low : 2 ≤ n
   pub small : n ≤ pages.small
   pub room : HasRoom (word_in m) pages.page page
 
--- the page, on no list, is unused and may get the class n
-pub record CanStart (pages : Pages) (m : Memory) (page n : ℕ) : Type 0 where
-  pub stands : StandsBut pages m page
-  pub is_page : IsPage pages.page pages.count page
-  pub unused : word_in m page ≡ 0
+-- the page, on no list, has room for a block of n words
+abbrev pub CanTakeUnlisted : Pages → Memory → ℕ → ℕ → Type 0
+CanTakeUnlisted pages m page n = CanTakeFrom pages m page page n
+
+-- the page of blocks of n words, which ends at `end`, has room for a second one where one is taken
+pub record KeepsRoom (w : Words) (page n end : ℕ) : Type 0 where
+  pub chained : w (page + 1) ≢ 0 → (w (w (page + 1) + 1) ≢ 0) ⊎ (w (page + 3) + n ≤ end)
+  pub fresh : w (page + 1) ≡ 0 → w (page + 3) + n + n ≤ end
+
+-- the page is on the list of those of n words that have room
+pub record IsOpen (pages : Pages) (m : Memory) (page n : ℕ) : Type 0 where
+  pub off : CanTakeOff pages m page (2 * n)
+  pub class : word_in m page ≡ n
+  pub kind : word_in m (page + 6) ≡ 1
+  pub room : HasRoom (word_in m) pages.page page
+
+-- the page stays on that list where a block is taken
+pub record StaysOpen (pages : Pages) (m : Memory) (page n : ℕ) : Type 0 where
+  pub listed : IsOpen pages m page n
   pub low : 2 ≤ n
   pub small : n ≤ pages.small
+  pub keeps : KeepsRoom (word_in m) page n (page + pages.page)

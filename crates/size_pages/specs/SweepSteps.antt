@@ -21,7 +21,7 @@ pub record CanWait (pages : Pages) (m : Memory) (page : ℕ) : Type 0 where
 pub record CanPutWaiting (pages : Pages) (m : Memory) (page : ℕ) : Type 0 where
   pub live : List Extent
   pub waiting : List ℕ
-  pub fits : HasBlocksBut pages m live waiting page 0
+  pub fits : HasBlocksBut pages m live waiting page
   pub is_page : IsPage pages.page pages.count page
   pub used : 2 ≤ word_in m page
   pub few : pages.waiting < 2 ^ 62

@@ -1,14 +1,14 @@
 //! The blocks of one page: the words of its header and the chain of its free blocks.
 
-ghost use Rattle.std.specs.Prelude.{◌≡◌, ◌≢◌, ℕ, ◌+◌, ◌<◌, ◌≤◌, ◌⊎◌, ◌^◌};
+ghost use Rattle.std.specs.Prelude.{◌≡◌, ◌≢◌, ℕ, ◌+◌, ◌<◌, ◌≤◌, ◌⊎◌, ◌^◌, IsTrue};
 ghost use Rattle.size_pages.specs.PageWords.{word_in, CanStore, HasAll, IsInArenas, TakesChained, TakesFresh, GivesBack, Clears, Starts};
-ghost use Rattle.size_pages.specs.Steps.{CanTake, CanPut};
+ghost use Rattle.size_pages.specs.Steps.{CanTake, CanPut, KeepsRoom};
 
 use crate::words::{load, store};
 use heap_space::Space;
 use object_header::Flag;
 
-/// The list that word 6 of a page's header names.
+/// The list that word 6 of a page's header names: none, for an unused page.
 pub const UNUSED: u64 = 0;
 
 pub const ROOM: u64 = 1;
@@ -78,6 +78,23 @@ pub fn kind_of(space: &Space, page: u64, n: u64, end: u64) -> u64
     FULL
 }
 
+/// Whether the page of blocks of n words, which has room and ends at `end`, has some for a second
+/// block where one is taken.
+pub fn keeps_room(space: &Space, page: u64, n: u64, end: u64) -> bool
+    requires can { CanTake space.now page n }
+    requires n { n < 2 ^ 62 }
+    ensures { IsTrue result → KeepsRoom (word_in space.now) page n end }
+{
+    let first = load(space, page + 1);
+    if first == 0 {
+        return load(space, page + 3) + n + n <= end;
+    }
+    if load(space, first + 1) != 0 {
+        return true;
+    }
+    load(space, page + 3) + n <= end
+}
+
 /// Puts the live block on the page's chain.
 pub fn put_on_chain(space: &mut Space, page: u64, block: u64)
     requires { CanPut space.old page block }
@@ -92,7 +109,7 @@ pub fn put_on_chain(space: &mut Space, page: u64, block: u64)
     store(space, page + 2, count - 1);
 }
 
-/// Makes the page one of no class.
+/// Makes the page one of no class, on no list.
 pub fn clear_page(space: &mut Space, page: u64)
     requires { HasAll space.old page (page + 8) }
     ensures clears { Clears (word_in space.old) (word_in space.new) page }
@@ -102,6 +119,7 @@ pub fn clear_page(space: &mut Space, page: u64)
     store(space, page + 1, 0);
     store(space, page + 2, 0);
     store(space, page + 3, 0);
+    store(space, page + 6, UNUSED);
 }
 
 /// Makes the page, which has no block, one of n words.

@@ -2,14 +2,13 @@
 
 ghost use Rattle.std.specs.Prelude.{◌≡◌, ℕ, ◌+◌, ◌*◌, ◌^◌, ◌<◌, ◌≤◌, List, length, vec_capacity, IfOk, OnOk, OnErr};
 ghost use Rattle.heap_space.specs.Memory.{Memory};
-ghost use Rattle.heap_space.specs.Extents.{Extent, KeepsWords, KeepsOutside};
-ghost use Rattle.size_pages.specs.PageWords.{word_in, IsInArenas};
+ghost use Rattle.heap_space.specs.Extents.{Extent};
+ghost use Rattle.size_pages.specs.PageWords.{word_in, Starts, IsInArenas};
 ghost use Rattle.size_pages.specs.LiveBlocks.{page_at};
-ghost use Rattle.size_pages.specs.HasBlocks.{HasBlocks, HasBlocksBut, Stands, KeepsSizes};
-ghost use Rattle.size_pages.specs.Steps.{CanTakeUnlisted};
-ghost use Rattle.size_pages.specs.Growth.{HasUnused, AllUsed, IsLowestUnused, IsRaised, IsOnlyCounts, IsOnlyOrder, CanList, ListsPages, AddsPages, IsEmptyPage, BeginsPage};
+ghost use Rattle.size_pages.specs.HasBlocks.{HasBlocks, Stands};
+ghost use Rattle.size_pages.specs.Growth.{FindsUnused, MakesUnused, IsOnlyOrder, AddsPages, KeepsBlocks, CanBegin, BeginsPage};
 
-use crate::blocks::{UNUSED, start_class};
+use crate::blocks::start_class;
 use crate::words::load;
 use crate::{ARENAS, Pages};
 use heap_space::Space;
@@ -21,8 +20,7 @@ impl Pages {
         requires { self.old.small ≤ 8192 }
         ensures long { OnOk result (2 * self.old.small + 2 ≤ length self.new.heads.items) }
         ensures keeps { (m : Memory) (live : List Extent) (waiting : List ℕ) → HasBlocks self.old m live waiting → HasBlocks self.new m live waiting }
-        ensures sizes { KeepsSizes self.old self.new }
-        ensures count { self.new.count ≡ self.old.count }
+        ensures heads { self.new ≡ record self.old { heads = self.new.heads } }
     {
         let wanted = (2 * self.small + 2) as usize;
         if self.heads.len() < wanted {
@@ -38,47 +36,50 @@ impl Pages {
         requires heads { 2 * self.old.small + 2 ≤ length self.old.heads.items }
         ensures begun { IfOk result (λ p. BeginsPage self.old self.new space.old space.new p n) }
         ensures err { OnErr result (space.new ≡ space.old) }
-        ensures err_order { OnErr result (IsOnlyOrder self.old self.new) }
+        ensures err_blocks { OnErr result (KeepsBlocks self.old self.new space.old) }
     {
-        if self.heads[0] == 0 {
-            self.add_arena(space)?;
-            return Ok(self.begin_page(space, n));
-        }
+        self.make_unused(space)?;
         Ok(self.begin_page(space, n))
     }
 
-    /// The lowest unused page becomes one of n words, on no list.
-    fn begin_page(&mut self, space: &mut Space, n: u64) -> u64
+    /// The search for unused pages begins at the lowest one from then on, which is the first of an
+    /// arena more where none was unused.
+    fn make_unused(&mut self, space: &mut Space) -> Result<(), AllocError>
         requires stands { Stands self.old space.old }
-        requires n { (2 ≤ n) × (n ≤ self.old.small) }
-        requires unused { HasUnused (word_in space.old) self.old.page self.old.count }
-        ensures can { CanTakeUnlisted self.new space.new result n }
-        ensures started { (live : List Extent) (waiting : List ℕ) → HasBlocks self.old space.old live waiting → HasBlocksBut self.new space.new live waiting result 0 }
-        ensures lowest { IsLowestUnused (word_in space.old) self.old.page self.old.count result }
-        ensures kept { (live : List Extent) (waiting : List ℕ) → HasBlocks self.old space.old live waiting → KeepsWords space.old space.new live }
-        ensures empty { IsEmptyPage (word_in space.new) result }
-        ensures counts { IsOnlyCounts self.old self.new }
-        ensures arenas { IsInArenas space.old space.new }
+        requires heads { 2 * self.old.small + 2 ≤ length self.old.heads.items }
+        ensures ok { OnOk result (MakesUnused self.old self.new space.old space.new) }
+        ensures err { OnErr result (space.new ≡ space.old) }
+        ensures err_blocks { OnErr result (KeepsBlocks self.old self.new space.old) }
     {
-        let page = self.lowest_unused(space);
-        self.take_off(space, page, 0);
-        start_class(space, page, n);
-        page
+        self.find_unused(space);
+        if self.lowest == self.count {
+            return self.add_arena(space);
+        }
+        Ok(())
     }
 
-    /// The lowest unused page.
-    fn lowest_unused(&mut self, space: &Space) -> u64
-        requires stands { Stands self.old space.now }
-        requires unused { HasUnused (word_in space.now) self.old.page self.old.count }
-        ensures lowest { IsLowestUnused (word_in space.now) self.old.page self.old.count result }
-        ensures raised { IsRaised self.old self.new result }
+    /// The search for unused pages begins at the lowest one from then on, or behind all pages.
+    fn find_unused(&mut self, space: &Space)
+        requires { Stands self.old space.now }
+        ensures { FindsUnused self.old self.new space.now }
     {
         let mut number = self.lowest;
-        while load(space, ARENAS + number * self.page) != 0 {
+        while number < self.count && load(space, ARENAS + number * self.page) != 0 {
             number += 1;
         }
         self.lowest = number;
-        ARENAS + number * self.page
+    }
+
+    /// The page at which the search begins, which is unused, becomes one of n words, on no list.
+    fn begin_page(&self, space: &mut Space, n: u64) -> u64
+        requires { CanBegin self.now space.old n }
+        ensures page { result ≡ page_at self.now.page self.now.lowest }
+        ensures starts { Starts (word_in space.old) (word_in space.new) result n }
+        ensures arenas { IsInArenas space.old space.new }
+    {
+        let page = ARENAS + self.lowest * self.page;
+        start_class(space, page, n);
+        page
     }
 
     /// An arena more, with all its pages unused.
@@ -93,7 +94,7 @@ impl Pages {
         let _words = space.arena_words();
         self.grow_order()?;
         space.add_arena()?;
-        self.list_pages(space);
+        self.count += self.pages_per_arena;
         Ok(())
     }
 
@@ -105,25 +106,5 @@ impl Pages {
     {
         self.order
             .reserve((self.count + self.pages_per_arena) as usize)
-    }
-
-    /// Puts the pages of an arena that was just added on the list of the unused ones.
-    fn list_pages(&mut self, space: &mut Space)
-        requires { CanList self.old space.old self.old.pages_per_arena }
-        ensures { ListsPages self.old self.new space.old space.new self.old.pages_per_arena }
-    {
-        for _page in 0..self.pages_per_arena {
-            self.list_page(space);
-        }
-    }
-
-    /// Puts the first page that is not counted yet on the list of the unused ones.
-    fn list_page(&mut self, space: &mut Space)
-        requires { CanList self.old space.old 1 }
-        ensures { ListsPages self.old self.new space.old space.new 1 }
-    {
-        let page = ARENAS + self.count * self.page;
-        self.count += 1;
-        self.put_on(space, page, 0, UNUSED);
     }
 }

@@ -1,9 +1,9 @@
 //! Blocks of small sizes, in pages. A page has eight header words, then blocks of one size, its
-//! class. Free blocks are chained through their own words, and pages are linked into lists through
-//! the words of their headers: one list for the unused pages, one for those that wait for a sweep,
-//! and for each class one for the pages with room and one for the full ones. Nothing is kept beside
-//! the words of the space but sizes, counts, the head of each list, and room for the places of the
-//! pages in use while a sweep begins.
+//! class. Free blocks are chained through their own words, and pages in use are linked into lists
+//! through the words of their headers: one list for those that wait for a sweep, and for each class
+//! one for the pages with room and one for the full ones. An unused page is on no list. Nothing is
+//! kept beside the words of the space but sizes, counts, the head of each list, and room for the
+//! places of the pages in use while a sweep begins.
 #![tactic(auto)]
 
 ghost use Rattle.std.specs.Prelude.{◌≡◌, ℕ, ◌+◌, ◌*◌, ◌<◌, ◌≤◌, List, [], ◌∷◌, length, IfOk, OnOk, OnErr};
@@ -25,10 +25,8 @@ mod sweep;
 mod tests;
 mod words;
 
-use blocks::{FULL, WAITING, put_on_chain};
 use heap_space::Space;
 use std::alloc::{AllocError, Global};
-use words::load;
 
 /// The place of the first arena.
 pub(crate) const ARENAS: u64 = 4294967296;
@@ -39,27 +37,30 @@ pub(crate) const ARENAS: u64 = 4294967296;
 /// the arenas.
 #[derive(Drop)]
 pub struct Pages {
+    /// The words of a page.
     pub(crate) page: u64,
     pub(crate) pages_per_arena: u64,
+    /// The greatest number of words of a block.
     pub(crate) small: u64,
     /// How many pages there are, in all arenas.
     pub(crate) count: u64,
-    /// How many of the first pages are surely in use.
+    /// How many of the first pages are surely in use: a search for unused ones begins here.
     pub(crate) lowest: u64,
     /// How many pages wait.
     pub(crate) waiting: u64,
-    /// The first page of each list, or 0: of the unused pages, of the waiting ones, and from number
-    /// 2 n on of those with blocks of n words that have room, and of the full ones.
+    /// The first page of each list, or 0: at 1 of the waiting pages, and from 2 n on of those with
+    /// blocks of n words that have room, and of the full ones. At 0 stands 0.
     pub(crate) heads: Vec<u64>,
-    /// Room for the places of all pages. Only while a sweep begins it holds some: those of the pages
-    /// in use.
+    /// Room for the places of all pages. Only while a sweep begins it holds some: those of the
+    /// pages in use.
     pub(crate) order: Vec<u64>,
 }
 
 impl Pages {
     /// No page and no live block. It does not allocate.
     ///
-    /// A page is to have so many words, an arena so many pages, and no block more words than `small`.
+    /// A page is to have so many words, an arena so many pages, and no block more words than
+    /// `small`.
     pub fn new(alloc: Global, page: u64, pages_per_arena: u64, small: u64) -> Pages
         requires page { (64 ≤ page) × (page ≤ 8192) }
         requires arena { (1 ≤ pages_per_arena) × (pages_per_arena ≤ 1024) }
@@ -86,7 +87,8 @@ impl Pages {
     /// A page of blocks of n words that has room gives it, where one does not wait, and else the
     /// lowest unused page is begun, and before that an arena added where none is unused. Of its page
     /// it is the first block of the chain, and where none is chained the first that was never handed
-    /// out. The only error is out of memory. It leaves everything as it was.
+    /// out. The page changes its list where it is full then. The only error is out of memory. It
+    /// leaves everything as it was.
     pub fn take(&mut self, space: &mut Space, n: u64) -> Result<u64, AllocError>
         requires stands { Stands self.old space.old }
         requires n { (2 ≤ n) × (n ≤ greatest_block self.old) }
@@ -106,12 +108,11 @@ impl Pages {
         ensures sizes { KeepsSizes self.old self.new }
     {
         self.grow_heads()?;
-        let page = self.heads[(2 * n) as usize];
-        if page != 0 {
-            self.take_off(space, page, (2 * n) as usize);
-            return Ok(self.take_unlisted(space, page, n));
+        let listed = self.open_page(space, n);
+        if listed != 0 {
+            return Ok(self.take_listed(space, listed, n));
         }
-        let page = self.start_page(space, n)?;
+        let page = self.find_page(space, n)?;
         Ok(self.take_unlisted(space, page, n))
     }
 
@@ -128,21 +129,7 @@ impl Pages {
         ensures sizes { KeepsSizes self.old self.new }
     {
         let page = self.page_of(a);
-        let kind = load(space, page + 6);
-        let live = load(space, page + 2);
-        if kind == WAITING {
-            put_on_chain(space, page, a);
-            return;
-        }
-        if live == 1 {
-            self.end_page(space, page, a, n, (2 * n + (kind - 1)) as usize);
-            return;
-        }
-        if kind == FULL {
-            self.give_back_full(space, page, a, n);
-            return;
-        }
-        put_on_chain(space, page, a);
+        self.give(space, page, a, n);
     }
 
     /// The number of waiting pages.

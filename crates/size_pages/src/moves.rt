@@ -1,18 +1,23 @@
 //! Pages that leave a list, change, and go on another.
 
-ghost use Rattle.std.specs.Prelude.{◌≡◌, ℕ, ◌+◌, ◌-◌, ◌*◌, ◌/◌, ◌<◌, ◌≤◌, List, ◌∷◌, slice_index};
+ghost use Rattle.std.specs.Prelude.{◌≡◌, ◌≢◌, ℕ, ◌+◌, ◌-◌, ◌*◌, ◌/◌, ◌<◌, ◌≤◌, List, ◌∷◌, length, slice_index, IfOk, OnErr};
 ghost use Rattle.heap_space.specs.Extents.{Extent, KeepsWords};
 ghost use Rattle.size_pages.specs.PageWords.{word_in, IsInArenas};
 ghost use Rattle.size_pages.specs.PageLists.{IsPage, SameSigns, Unlinks, Links};
-ghost use Rattle.size_pages.specs.HasBlocks.{HasBlocks, HasBlocksBut, KeepsSizes};
-ghost use Rattle.size_pages.specs.Steps.{TakesNext, IsOnlyHeads, CanTakeOff, CanPutOn, CanEnd, CanGiveFull, CanTakeUnlisted};
-ghost use Rattle.size_pages.specs.Growth.{IsLowered};
-ghost use Rattle.size_pages.specs.Calls.{page_of, ChangesAround};
+ghost use Rattle.size_pages.specs.HasBlocks.{HasBlocks, HasBlocksBut, Stands, IsLive};
+ghost use Rattle.size_pages.specs.Steps.{TakesNext, IsOnlyHeads, CanTakeOff, CanPutOn, CanEnd, CanGiveFull, CanTakeUnlisted, StaysOpen};
+ghost use Rattle.size_pages.specs.Growth.{IsLowered, KeepsBlocks};
+ghost use Rattle.size_pages.specs.Calls.{page_of};
+ghost use Rattle.size_pages.specs.Moves.{FindsPage, TakesListed, GivesBlock};
 
-use crate::blocks::{ROOM, UNUSED, clear_page, kind_of, put_on_chain, take_from};
+use crate::blocks::{
+    FULL, ROOM, WAITING, clear_page, keeps_room, kind_of, put_on_chain, take_from,
+};
 use crate::links::{link, unlink};
+use crate::words::load;
 use crate::{ARENAS, Pages};
 use heap_space::Space;
+use std::alloc::AllocError;
 
 impl Pages {
     /// Where the page of a place begins.
@@ -27,7 +32,7 @@ impl Pages {
     /// Takes the page off its list, which is not that of the waiting pages.
     pub(crate) fn take_off(&mut self, space: &mut Space, page: u64, list: usize)
         requires { CanTakeOff self.old space.old page list }
-        ensures off { (live : List Extent) (waiting : List ℕ) → HasBlocks self.old space.old live waiting → HasBlocksBut self.new space.new live waiting page 0 }
+        ensures off { (live : List Extent) (waiting : List ℕ) → HasBlocks self.old space.old live waiting → HasBlocksBut self.new space.new live waiting page }
         ensures unlinks { Unlinks (word_in space.old) (word_in space.new) self.old.heads.items self.new.heads.items page list }
         ensures signs { SameSigns (word_in space.old) (word_in space.new) page }
         ensures heads { IsOnlyHeads self.old self.new }
@@ -39,7 +44,7 @@ impl Pages {
     /// Puts the page in front of the list, which is not that of the waiting pages.
     pub(crate) fn put_on(&mut self, space: &mut Space, page: u64, list: usize, kind: u64)
         requires { CanPutOn self.old space.old page list kind }
-        ensures on { (live : List Extent) (waiting : List ℕ) (spare : ℕ) → HasBlocksBut self.old space.old live waiting page spare → HasBlocksBut self.new space.new live waiting 0 spare }
+        ensures on { (live : List Extent) (waiting : List ℕ) → HasBlocksBut self.old space.old live waiting page → HasBlocksBut self.new space.new live waiting 0 }
         ensures links { Links (word_in space.old) (word_in space.new) self.old.heads.items self.new.heads.items page list kind }
         ensures heads { IsOnlyHeads self.old self.new }
         ensures arenas { IsInArenas space.old space.new }
@@ -50,8 +55,8 @@ impl Pages {
     /// Takes a block of n words from a page that is on no list, and puts the page on its list.
     pub(crate) fn take_unlisted(&mut self, space: &mut Space, page: u64, n: u64) -> u64
         requires { CanTakeUnlisted self.old space.old page n }
-        ensures taken { (live : List Extent) (waiting : List ℕ) (spare : ℕ) → HasBlocksBut self.old space.old live waiting page spare → HasBlocksBut self.new space.new ((result, n) ∷ live) waiting 0 spare }
-        ensures kept { (live : List Extent) (waiting : List ℕ) (spare : ℕ) → HasBlocksBut self.old space.old live waiting page spare → KeepsWords space.old space.new live }
+        ensures taken { (live : List Extent) (waiting : List ℕ) → HasBlocksBut self.old space.old live waiting page → HasBlocksBut self.new space.new ((result, n) ∷ live) waiting 0 }
+        ensures kept { (live : List Extent) (waiting : List ℕ) → HasBlocksBut self.old space.old live waiting page → KeepsWords space.old space.new live }
         ensures cleared { word_in space.new result ≡ 0 }
         ensures place { (page + 8 ≤ result) × (result + n ≤ page + self.old.page) }
         ensures page { page ≡ page_of self.old.page result }
@@ -74,29 +79,88 @@ impl Pages {
         self.lowest = self.lowest.min((page - ARENAS) / self.page);
     }
 
+    /// The first page with blocks of n words that has room, if it stays on its list where one is
+    /// taken, and else 0.
+    pub(crate) fn open_page(&self, space: &Space, n: u64) -> u64
+        requires stands { Stands self.now space.now }
+        requires n { (2 ≤ n) × (n ≤ self.now.small) }
+        requires heads { 2 * self.now.small + 2 ≤ length self.now.heads.items }
+        ensures { result ≢ 0 → StaysOpen self.now space.now result n }
+    {
+        let page = self.heads[(2 * n) as usize];
+        if page == 0 {
+            return 0;
+        }
+        if keeps_room(space, page, n, page + self.page) {
+            return page;
+        }
+        0
+    }
+
+    /// Takes a block of n words from the page, which stays on its list.
+    pub(crate) fn take_listed(&self, space: &mut Space, page: u64, n: u64) -> u64
+        requires { StaysOpen self.now space.old page n }
+        ensures { TakesListed self.now space.old space.new n result }
+    {
+        take_from(space, page, n)
+    }
+
+    /// A page for a block of n words, taken off its list where it was on one: the first of its
+    /// class that has room, or else the lowest unused one.
+    pub(crate) fn find_page(&mut self, space: &mut Space, n: u64) -> Result<u64, AllocError>
+        requires stands { Stands self.old space.old }
+        requires n { (2 ≤ n) × (n ≤ self.old.small) }
+        requires heads { 2 * self.old.small + 2 ≤ length self.old.heads.items }
+        ensures found { IfOk result (λ p. FindsPage self.old self.new space.old space.new p n) }
+        ensures err { OnErr result (space.new ≡ space.old) }
+        ensures err_blocks { OnErr result (KeepsBlocks self.old self.new space.old) }
+    {
+        let page = self.heads[(2 * n) as usize];
+        if page == 0 {
+            return self.start_page(space, n);
+        }
+        self.take_off(space, page, (2 * n) as usize);
+        Ok(page)
+    }
+
+    /// The block, of the page, is not live any more. Where it was the last live one the page is
+    /// unused from then on, unless it waits.
+    pub(crate) fn give(&mut self, space: &mut Space, page: u64, a: u64, n: u64)
+        requires live { IsLive self.old space.old (a, n) }
+        requires page { page ≡ page_of self.old.page a }
+        ensures { GivesBlock self.old self.new space.old space.new page a n }
+    {
+        let kind = load(space, page + 6);
+        let live = load(space, page + 2);
+        if kind == WAITING {
+            put_on_chain(space, page, a);
+            return;
+        }
+        if live == 1 {
+            self.end_page(space, page, a, n, (2 * n + (kind - 1)) as usize);
+            return;
+        }
+        if kind == FULL {
+            self.give_back_full(space, page, a, n);
+            return;
+        }
+        put_on_chain(space, page, a);
+    }
+
     /// The block, the last live one of its page, is not live any more.
     pub(crate) fn end_page(&mut self, space: &mut Space, page: u64, a: u64, n: u64, list: usize)
         requires { CanEnd self.old space.old page a n list }
-        ensures given { (live : List Extent) (waiting : List ℕ) → HasBlocks self.old space.old ((a, n) ∷ live) waiting → HasBlocks self.new space.new live waiting }
-        ensures kept { (live : List Extent) (waiting : List ℕ) → HasBlocks self.old space.old ((a, n) ∷ live) waiting → KeepsWords space.old space.new live }
-        ensures around { ChangesAround (word_in space.old) (word_in space.new) self.old.page self.old.count page a }
-        ensures sizes { KeepsSizes self.old self.new }
-        ensures arenas { IsInArenas space.old space.new }
+        ensures { GivesBlock self.old self.new space.old space.new page a n }
     {
         self.take_off(space, page, list);
         self.lower(page);
         clear_page(space, page);
-        self.put_on(space, page, 0, UNUSED);
     }
 
     /// The block, of a full page, is not live any more.
     pub(crate) fn give_back_full(&mut self, space: &mut Space, page: u64, a: u64, n: u64)
         requires { CanGiveFull self.old space.old page a n }
-        ensures given { (live : List Extent) (waiting : List ℕ) → HasBlocks self.old space.old ((a, n) ∷ live) waiting → HasBlocks self.new space.new live waiting }
-        ensures kept { (live : List Extent) (waiting : List ℕ) → HasBlocks self.old space.old ((a, n) ∷ live) waiting → KeepsWords space.old space.new live }
-        ensures around { ChangesAround (word_in space.old) (word_in space.new) self.old.page self.old.count page a }
-        ensures sizes { KeepsSizes self.old self.new }
-        ensures arenas { IsInArenas space.old space.new }
+        ensures { GivesBlock self.old self.new space.old space.new page a n }
     {
         self.take_off(space, page, (2 * n + 1) as usize);
         put_on_chain(space, page, a);

@@ -11,7 +11,7 @@ ghost use Rattle.size_pages.specs.Sweeping.{CanSweep, SweepsPage, is_dead};
 ghost use Rattle.size_pages.specs.SlotSteps.{CanSweepAt, CanSweepSlot, GathersBirths, HoldsNumbers, SweepsBlocks, SweepsSlot, CanRelist, Relists};
 
 use crate::Pages;
-use crate::blocks::{UNUSED, clear_page, kind_of, put_on_chain};
+use crate::blocks::{clear_page, kind_of, put_on_chain};
 use crate::links::unlink;
 use crate::words::{load, store};
 use heap_space::Space;
@@ -118,7 +118,6 @@ impl Pages {
         if load(space, page + 2) == 0 {
             self.lower(page);
             clear_page(space, page);
-            self.put_on(space, page, 0, UNUSED);
             return;
         }
         let class = load(space, page);
@@ -129,7 +128,7 @@ impl Pages {
     /// Takes the first waiting page off its list.
     fn take_off_first(&mut self, space: &mut Space, page: u64)
         requires { CanRelist self.old space.old page }
-        ensures off { (live : List Extent) (rest : List ℕ) → HasBlocks self.old space.old live (page ∷ rest) → HasBlocksBut self.new space.new live rest page 0 }
+        ensures off { (live : List Extent) (rest : List ℕ) → HasBlocks self.old space.old live (page ∷ rest) → HasBlocksBut self.new space.new live rest page }
         ensures unlinks { Unlinks (word_in space.old) (word_in space.new) self.old.heads.items self.new.heads.items page 1 }
         ensures signs { SameSigns (word_in space.old) (word_in space.new) page }
         ensures lists { IsOnlyLists self.old self.new }

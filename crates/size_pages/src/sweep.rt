@@ -52,7 +52,7 @@ impl Pages {
     /// Puts the page, which is on no list, in front of the waiting ones.
     fn put_waiting(&mut self, space: &mut Space, page: u64)
         requires { CanPutWaiting self.old space.old page }
-        ensures on { (live : List Extent) (waiting : List ℕ) → HasBlocksBut self.old space.old live waiting page 0 → EachPlace (λ q. page < q) waiting → HasBlocks self.new space.new live (page ∷ waiting) }
+        ensures on { (live : List Extent) (waiting : List ℕ) → HasBlocksBut self.old space.old live waiting page → EachPlace (λ q. page < q) waiting → HasBlocks self.new space.new live (page ∷ waiting) }
         ensures links { Links (word_in space.old) (word_in space.new) self.old.heads.items self.new.heads.items page 1 3 }
         ensures sizes { KeepsSizes self.old self.new }
         ensures count { self.new.count ≡ self.old.count }

@@ -1,9 +1,8 @@
-use Rattle.std.proofs.Common.{arith, ◌≡◌, ◌≢◌, ◌∙◌, ◌+◌, ◌*◌, ◌≤◌, sym, inl, inr, ap, ℕ, refl}
+use Rattle.std.proofs.Common.{arith, ◌≢◌, ◌∙◌, ◌+◌, ◌*◌, ◌≤◌, sym, inl, inr, ap, ℕ}
 use Rattle.size_pages.specs.PageWords.{word_in}
 use Rattle.object_header.specs.Words.{has_flag}
 use Rattle.object_header.specs.declared.flags.Flag.TheVariants.{Free}
-use Rattle.size_pages.proofs.ListingLaws.{slots_count, slot_inside}
-use Rattle.size_pages.proofs.GatherLaws.{swept_page, births_none, births_slot, births_end}
+use Rattle.size_pages.proofs.GatherLaws.{swept_page, births_none, births_slot, births_end, slot_in, slot_birth, slot_word, slots_end}
 use Rattle.size_pages.specs.Sweeping.{is_dead}
 use Rattle.size_pages.proofs.Pages.gather_births.Goals.{then-not-is_set+then-is_dead+in_ok-push, else-not-is_set, else-not-is_set-via-then-not-is_set+else-is_dead, else-not-is_set-via-else-not-is_set}
 use Rattle.size_pages.proofs.Pages.gather_births.Goals as goal
@@ -27,38 +26,17 @@ loop-slot-init c =
     births_none c.args.self.now c.args.space.now c.args.page c.load-class.result g.can c.load-class.ensures some c.args.freed.now.items
 
 pub load-word-requires : goal.load-word-requires
-load-word-requires c =
-    let g = swept_page c.args.self.now c.args.space.now c.args.page c.requires in
-    let some : c.load-class.result ≢ 0 = λ z. g.used (sym c.load-class.ensures ∙ z) in
-    let count : c.slots-count.result ≡ g.slots.slots = c.slots-count.ensures ∙ slots_count (word_in c.args.space.now) c.args.self.now.page c.args.page (word_in c.args.space.now (c.args.page + 3)) c.load-class.result g.slots refl c.load-class.ensures in
-    let inside : c.args.page + 8 + c.loop-slot.slot * c.load-class.result + c.load-class.result ≤ word_in c.args.space.now (c.args.page + 3) = slot_inside (word_in c.args.space.now) c.args.self.now.page c.args.page c.loop-slot.slot c.load-class.result g.slots c.load-class.ensures (omega (arith, count, c.loop-slot-test.true)) in
-    let high : word_in c.args.space.now (c.args.page + 3) ≤ c.args.page + c.args.self.now.page = g.slots.fresh_high in
-    let two : 2 ≤ word_in c.args.space.now c.args.page = g.slots.words in
-    let wide : 2 ≤ c.load-class.result = omega (arith, c.load-class.ensures) in
-    g.all (c.args.page + 8 + c.loop-slot.slot * c.load-class.result) (omega arith) (omega arith)
+load-word-requires c = slot_word c.args.self.now c.args.space.now c.args.page c.load-class.result c.slots-count.result c.requires c.load-class.ensures c.slots-count.ensures c.loop-slot.slot c.loop-slot-test.true
 
 pub load-requires : goal.load-requires
-load-requires c =
-    let g = swept_page c.args.self.now c.args.space.now c.args.page c.requires in
-    let some : c.load-class.result ≢ 0 = λ z. g.used (sym c.load-class.ensures ∙ z) in
-    let count : c.slots-count.result ≡ g.slots.slots = c.slots-count.ensures ∙ slots_count (word_in c.args.space.now) c.args.self.now.page c.args.page (word_in c.args.space.now (c.args.page + 3)) c.load-class.result g.slots refl c.load-class.ensures in
-    let inside : c.args.page + 8 + c.loop-slot.slot * c.load-class.result + c.load-class.result ≤ word_in c.args.space.now (c.args.page + 3) = slot_inside (word_in c.args.space.now) c.args.self.now.page c.args.page c.loop-slot.slot c.load-class.result g.slots c.load-class.ensures (omega (arith, count, c.loop-slot-test.true)) in
-    let high : word_in c.args.space.now (c.args.page + 3) ≤ c.args.page + c.args.self.now.page = g.slots.fresh_high in
-    let two : 2 ≤ word_in c.args.space.now c.args.page = g.slots.words in
-    let wide : 2 ≤ c.load-class.result = omega (arith, c.load-class.ensures) in
-    g.all (c.args.page + 8 + c.loop-slot.slot * c.load-class.result + 1) (omega arith) (omega arith)
+load-requires c = slot_birth c.args.self.now c.args.space.now c.args.page c.load-class.result c.slots-count.result c.requires c.load-class.ensures c.slots-count.ensures c.loop-slot.slot c.loop-slot-test.true
 
 pub loop-slot-preserved : goal.loop-slot-preserved
 loop-slot-preserved c =
     let g = swept_page c.args.self.now c.args.space.now c.args.page c.requires in
     let some : c.load-class.result ≢ 0 = λ z. g.used (sym c.load-class.ensures ∙ z) in
-    let count : c.slots-count.result ≡ g.slots.slots = c.slots-count.ensures ∙ slots_count (word_in c.args.space.now) c.args.self.now.page c.args.page (word_in c.args.space.now (c.args.page + 3)) c.load-class.result g.slots refl c.load-class.ensures in
-    let inside : c.args.page + 8 + c.loop-slot.slot * c.load-class.result + c.load-class.result ≤ word_in c.args.space.now (c.args.page + 3) = slot_inside (word_in c.args.space.now) c.args.self.now.page c.args.page c.loop-slot.slot c.load-class.result g.slots c.load-class.ensures (omega (arith, count, c.loop-slot-test.true)) in
-    let high : word_in c.args.space.now (c.args.page + 3) ≤ c.args.page + c.args.self.now.page = g.slots.fresh_high in
-    let two : 2 ≤ word_in c.args.space.now c.args.page = g.slots.words in
-    let wide : 2 ≤ c.load-class.result = omega (arith, c.load-class.ensures) in
     let flag = c.is_set.ensures ∙ ap (λ (k : ℕ). has_flag k Free) c.load-word.ensures in
-    births_slot c.args.self.now c.args.space.now c.args.page c.load-class.result g.can c.load-class.ensures some c.loop-slot.slot c.args.freed.now.items c.loop-slot.freed.items c.if-not-is_set.freed.items (omega arith) (omega arith) c.loop-slot.invariant
+    births_slot c.args.self.now c.args.space.now c.args.page c.load-class.result g.can c.load-class.ensures some c.loop-slot.slot c.args.freed.now.items c.loop-slot.freed.items c.if-not-is_set.freed.items (slot_in c.args.self.now c.args.space.now c.args.page c.load-class.result c.slots-count.result c.requires c.load-class.ensures c.slots-count.ensures c.loop-slot.slot c.loop-slot-test.true) c.loop-slot.invariant
     (elim c.if-not-is_set.branch [
       | then-not-is_set+then-is_dead+in_ok-push w ↦ inr (inr (sym flag ∙ w.if-not-is_set.true, ap is_dead (sym c.load-word.ensures) ∙ sym w.is_dead.ensures ∙ w.if-is_dead.true, (cc (w.freed-is, w.in_ok-push.ensures.items, w.load.ensures))))
       | else-not-is_set w ↦ elim w.else-not-is_set.branch [
@@ -71,8 +49,5 @@ pub returns-clause-gathered : goal.returns-clause-gathered
 returns-clause-gathered c =
     let g = swept_page c.args.self.now c.args.space.now c.args.page c.requires in
     let some : c.load-class.result ≢ 0 = λ z. g.used (sym c.load-class.ensures ∙ z) in
-    let count : c.slots-count.result ≡ g.slots.slots = c.slots-count.ensures ∙ slots_count (word_in c.args.space.now) c.args.self.now.page c.args.page (word_in c.args.space.now (c.args.page + 3)) c.load-class.result g.slots refl c.load-class.ensures in
-    let all : g.slots.slots * word_in c.args.space.now c.args.page + (c.args.page + 8) ≡ word_in c.args.space.now (c.args.page + 3) = g.slots.all in
-    let last : c.loop-slot.slot ≡ g.slots.slots = omega (arith, count, c.loop-slot-test.false, c.loop-slot.auto.slot-end) in
-    let e : c.loop-slot.slot * c.load-class.result ≡ g.slots.slots * word_in c.args.space.now c.args.page = ap (λ (k : ℕ). k * c.load-class.result) last ∙ ap (λ (k : ℕ). g.slots.slots * k) c.load-class.ensures in
-    births_end c.args.self.now c.args.space.now c.args.page c.load-class.result g.can c.load-class.ensures some c.args.freed.now.items c.loop-slot.freed.items (c.args.page + 8 + c.loop-slot.slot * c.load-class.result) (omega arith) c.loop-slot.invariant
+    births_end c.args.self.now c.args.space.now c.args.page c.load-class.result g.can c.load-class.ensures some c.args.freed.now.items c.loop-slot.freed.items (c.args.page + 8 + c.loop-slot.slot * c.load-class.result)
+    (slots_end c.args.self.now c.args.space.now c.args.page c.load-class.result c.slots-count.result c.requires c.load-class.ensures c.slots-count.ensures c.loop-slot.slot (omega (arith, c.loop-slot-test.false, c.loop-slot.auto.slot-end))) c.loop-slot.invariant

@@ -6,19 +6,13 @@ pub returns-in_ok-resize-clause-keeps : goal.returns-in_ok-resize-clause-keeps
 returns-in_ok-resize-clause-keeps c m live waiting f =
     let heads = c.args.self.now.heads in
     record {
-      size_high = f.size_high;
-      arena_low = f.arena_low;
-      arena_high = f.arena_high;
-      small_low = f.small_low;
-      small_high = f.small_high;
-      arena_size = f.arena_size;
-      end = f.end;
-      below = f.below;
-      placed = f.placed;
+      setup = f.setup;
+      arenas = f.arenas;
       blocks = f.blocks;
       classes = f.classes;
       lists = record {
         lists = f.lists.lists;
+        none = f.lists.none;
         waits = f.lists.waits;
         heads_are = λ s. ap (λ (xs : List ℕ). slice_index xs s) c.in_ok-resize.ensures.items ∙ padded heads.items (2 * c.args.self.now.small + 2) (2 * c.args.self.now.small + 2 - vec_len heads) s (omega (arith, heads.ok, c.len.ensures, c.if-len-wanted.true)) ∙ f.lists.heads_are s;
         linked = f.lists.linked;

@@ -1,7 +1,6 @@
-use Rattle.std.proofs.Common.{arith, ◌≡◌, ◌∙◌, ◌+◌, ◌*◌, ◌≤◌, ap, ℕ, refl}
+use Rattle.std.proofs.Common.{arith, ◌+◌, ◌*◌, ◌≤◌}
 use Rattle.size_pages.specs.PageWords.{word_in}
-use Rattle.size_pages.proofs.ListingLaws.{slots_count, slot_inside}
-use Rattle.size_pages.proofs.GatherLaws.{swept_page}
+use Rattle.size_pages.proofs.GatherLaws.{swept_page, slot_in, slots_end}
 use Rattle.size_pages.proofs.SweepLaws.{swept_none, can_sweep_slot, slot_swept, swept_all}
 use Rattle.size_pages.proofs.Pages.sweep_blocks.Goals as goal
 
@@ -21,24 +20,13 @@ pub loop-slot-init : goal.loop-slot-init
 loop-slot-init c = swept_none c.args.self.now c.args.space.now c.args.page c.load-class.result c.requires c.load-class.ensures
 
 pub sweep_slot-requires : goal.sweep_slot-requires
-sweep_slot-requires c =
-    let g = swept_page c.args.self.now c.args.space.now c.args.page c.requires in
-    let count : c.slots-count.result ≡ g.slots.slots = c.slots-count.ensures ∙ slots_count (word_in c.args.space.now) c.args.self.now.page c.args.page (word_in c.args.space.now (c.args.page + 3)) c.load-class.result g.slots refl c.load-class.ensures in
-    let inside : c.args.page + 8 + c.loop-slot.slot * c.load-class.result + c.load-class.result ≤ word_in c.args.space.now (c.args.page + 3) = slot_inside (word_in c.args.space.now) c.args.self.now.page c.args.page c.loop-slot.slot c.load-class.result g.slots c.load-class.ensures (omega (arith, count, c.loop-slot-test.true)) in
-    can_sweep_slot c.args.self.now c.args.space.now c.loop-slot.space c.args.page c.load-class.result c.requires c.load-class.ensures c.loop-slot.slot inside c.loop-slot.invariant
+sweep_slot-requires c = can_sweep_slot c.args.self.now c.args.space.now c.loop-slot.space c.args.page c.load-class.result c.requires c.load-class.ensures c.loop-slot.slot (slot_in c.args.self.now c.args.space.now c.args.page c.load-class.result c.slots-count.result c.requires c.load-class.ensures c.slots-count.ensures c.loop-slot.slot c.loop-slot-test.true) c.loop-slot.invariant
 
 pub loop-slot-preserved : goal.loop-slot-preserved
 loop-slot-preserved c =
-    let g = swept_page c.args.self.now c.args.space.now c.args.page c.requires in
-    let count : c.slots-count.result ≡ g.slots.slots = c.slots-count.ensures ∙ slots_count (word_in c.args.space.now) c.args.self.now.page c.args.page (word_in c.args.space.now (c.args.page + 3)) c.load-class.result g.slots refl c.load-class.ensures in
-    let inside : c.args.page + 8 + c.loop-slot.slot * c.load-class.result + c.load-class.result ≤ word_in c.args.space.now (c.args.page + 3) = slot_inside (word_in c.args.space.now) c.args.self.now.page c.args.page c.loop-slot.slot c.load-class.result g.slots c.load-class.ensures (omega (arith, count, c.loop-slot-test.true)) in
-    slot_swept c.args.self.now c.args.space.now c.loop-slot.space c.args.page c.load-class.result c.requires c.load-class.ensures c.loop-slot.slot inside c.loop-slot.invariant c.sweep_slot.new.space c.sweep_slot.ensures.swept c.sweep_slot.ensures.arenas
+    slot_swept c.args.self.now c.args.space.now c.loop-slot.space c.args.page c.load-class.result c.requires c.load-class.ensures c.loop-slot.slot (slot_in c.args.self.now c.args.space.now c.args.page c.load-class.result c.slots-count.result c.requires c.load-class.ensures c.slots-count.ensures c.loop-slot.slot c.loop-slot-test.true) c.loop-slot.invariant c.sweep_slot.new.space c.sweep_slot.ensures.swept c.sweep_slot.ensures.arenas
 
 pub returns : goal.returns
 returns c =
-    let g = swept_page c.args.self.now c.args.space.now c.args.page c.requires in
-    let count : c.slots-count.result ≡ g.slots.slots = c.slots-count.ensures ∙ slots_count (word_in c.args.space.now) c.args.self.now.page c.args.page (word_in c.args.space.now (c.args.page + 3)) c.load-class.result g.slots refl c.load-class.ensures in
-    let all : g.slots.slots * word_in c.args.space.now c.args.page + (c.args.page + 8) ≡ word_in c.args.space.now (c.args.page + 3) = g.slots.all in
-    let last : c.loop-slot.slot ≡ g.slots.slots = omega (arith, count, c.loop-slot-test.false, c.loop-slot.auto.slot-end) in
-    let e : c.loop-slot.slot * c.load-class.result ≡ g.slots.slots * word_in c.args.space.now c.args.page = ap (λ (k : ℕ). k * c.load-class.result) last ∙ ap (λ (k : ℕ). g.slots.slots * k) c.load-class.ensures in
-    swept_all c.args.self.now c.args.space.now c.loop-slot.space c.args.page (c.args.page + 8 + c.loop-slot.slot * c.load-class.result) c.load-class.result c.requires c.load-class.ensures (omega arith) c.loop-slot.invariant
+    swept_all c.args.self.now c.args.space.now c.loop-slot.space c.args.page (c.args.page + 8 + c.loop-slot.slot * c.load-class.result) c.load-class.result c.requires c.load-class.ensures
+    (slots_end c.args.self.now c.args.space.now c.args.page c.load-class.result c.slots-count.result c.requires c.load-class.ensures c.slots-count.ensures c.loop-slot.slot (omega (arith, c.loop-slot-test.false, c.loop-slot.auto.slot-end))) c.loop-slot.invariant

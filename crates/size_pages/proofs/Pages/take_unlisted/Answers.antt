@@ -14,24 +14,24 @@ put_on-requires c =
     c.kind_of-kind.ensures.known c.kind_of-kind.ensures.room c.kind_of-kind.ensures.full
 
 pub returns-clause-taken : goal.returns-clause-taken
-returns-clause-taken c live waiting spare f =
-    c.put_on.ensures.on ((c.take_from-block.result, c.args.n) ∷ live) waiting spare
+returns-clause-taken c live waiting f =
+    c.put_on.ensures.on ((c.take_from-block.result, c.args.n) ∷ live) waiting
     (taken_fits c.args.self.now c.args.space.now c.take_from-block.new.space c.args.page c.args.n c.take_from-block.result c.requires
-    (record { chained = c.take_from-block.ensures.chained; fresh = c.take_from-block.ensures.fresh }) c.take_from-block.ensures.arenas live waiting spare f)
+    (record { chained = c.take_from-block.ensures.chained; fresh = c.take_from-block.ensures.fresh }) c.take_from-block.ensures.arenas live waiting f)
 
 pub returns-clause-kept : goal.returns-clause-kept
-returns-clause-kept c live waiting spare f =
+returns-clause-kept c live waiting f =
     keeps_then c.args.space.now c.take_from-block.new.space c.put_on.new.space live
-    (taken_keeps c.args.self.now c.args.space.now c.take_from-block.new.space c.args.page c.args.n c.take_from-block.result c.requires (record { chained = c.take_from-block.ensures.chained; fresh = c.take_from-block.ensures.fresh }) c.take_from-block.ensures.arenas live waiting spare f)
-    (links_keep c.args.self.now c.put_on.new.self.heads.items c.take_from-block.new.space c.put_on.new.space c.args.page _ c.kind_of-kind.result ((c.take_from-block.result, c.args.n) ∷ live) waiting spare c.requires.is_page c.put_on.ensures.links
-    (taken_fits c.args.self.now c.args.space.now c.take_from-block.new.space c.args.page c.args.n c.take_from-block.result c.requires (record { chained = c.take_from-block.ensures.chained; fresh = c.take_from-block.ensures.fresh }) c.take_from-block.ensures.arenas live waiting spare f)).1
+    (taken_keeps c.args.self.now c.args.space.now c.take_from-block.new.space c.args.page c.args.n c.take_from-block.result c.requires (record { chained = c.take_from-block.ensures.chained; fresh = c.take_from-block.ensures.fresh }) c.take_from-block.ensures.arenas live waiting f)
+    (links_keep c.args.self.now c.put_on.new.self.heads.items c.take_from-block.new.space c.put_on.new.space c.args.page _ c.kind_of-kind.result ((c.take_from-block.result, c.args.n) ∷ live) waiting c.requires.is_page c.put_on.ensures.links
+    (taken_fits c.args.self.now c.args.space.now c.take_from-block.new.space c.args.page c.args.n c.take_from-block.result c.requires (record { chained = c.take_from-block.ensures.chained; fresh = c.take_from-block.ensures.fresh }) c.take_from-block.ensures.arenas live waiting f)).1
 
 pub returns-clause-cleared : goal.returns-clause-cleared
 returns-clause-cleared c =
     let s = c.requires.stands in
     let two : 2 ≤ c.args.n = c.requires.low in
-    (links_keep c.args.self.now c.put_on.new.self.heads.items c.take_from-block.new.space c.put_on.new.space c.args.page _ c.kind_of-kind.result ((c.take_from-block.result, c.args.n) ∷ s.live) s.waiting s.spare c.requires.is_page c.put_on.ensures.links
-    (taken_fits c.args.self.now c.args.space.now c.take_from-block.new.space c.args.page c.args.n c.take_from-block.result c.requires (record { chained = c.take_from-block.ensures.chained; fresh = c.take_from-block.ensures.fresh }) c.take_from-block.ensures.arenas s.live s.waiting s.spare s.fits)).0
+    (links_keep c.args.self.now c.put_on.new.self.heads.items c.take_from-block.new.space c.put_on.new.space c.args.page _ c.kind_of-kind.result ((c.take_from-block.result, c.args.n) ∷ s.live) s.waiting c.requires.is_page c.put_on.ensures.links
+    (taken_fits c.args.self.now c.args.space.now c.take_from-block.new.space c.args.page c.args.n c.take_from-block.result c.requires (record { chained = c.take_from-block.ensures.chained; fresh = c.take_from-block.ensures.fresh }) c.take_from-block.ensures.arenas s.live s.waiting s.fits)).0
     c.take_from-block.result (omega arith, omega arith)
     ∙ taken_clear c.args.space.now c.take_from-block.new.space c.args.page c.args.n c.take_from-block.result (record { chained = c.take_from-block.ensures.chained; fresh = c.take_from-block.ensures.fresh })
 
