@@ -4,7 +4,7 @@ use Rattle.type_table.specs.declared.info.TypeInfo.{TypeInfo}
 use Rattle.type_table.specs.Words.{words_in}
 use Rattle.nursery_gaps.specs.Nursery.{Fits}
 use Rattle.parts_model.specs.Parts.{HeapParts, place_in}
-use Rattle.parts_model.specs.Births.{BearsYoung, KeepsLive, TakesNone, BearsOld}
+use Rattle.parts_model.specs.Births.{HasNurseryRoom, BearsYoung, KeepsLive, TakesNone, BearsOld, HasOldRoom}
 use Rattle.parts_model.specs.WeakBirths.{with_listed, BearsWeakYoung, BearsWeakOld}
 
 -- the heap with the listed weak objects of another one
@@ -79,3 +79,14 @@ weak_old heap mid young next new root type_id info target l is same full bears p
       };
       is = places heap.weaks 0 listed ∙ ap (λ (p : ℕ). record next { weaks = heap.weaks ++ p ∷ [] }) place;
     }
+
+-- the room for a birth does not depend on what is listed
+pub young-listed : (heap mid : HeapParts) (root : ℕ) (info : TypeInfo) → mid ≡ with_listed heap 0 → HasNurseryRoom heap root info 0 → HasNurseryRoom mid root info 0
+young-listed heap mid root info is room =
+    subst (λ (h : HeapParts). HasNurseryRoom h root info 0) (sym is)
+    (record { slot = room.slot; items_few = room.items_few; whole = room.whole; least = room.least; next_small = room.next_small; unsettled_small = room.unsettled_small })
+
+pub old-listed : (heap mid : HeapParts) (root : ℕ) (info : TypeInfo) → mid ≡ with_listed heap 0 → HasOldRoom heap root info 0 → HasOldRoom mid root info 0
+old-listed heap mid root info is room =
+    subst (λ (h : HeapParts). HasOldRoom h root info 0) (sym is)
+    (record { slot = room.slot; items_few = room.items_few; stands = room.stands; next_small = room.next_small; old_small = room.old_small; fresh_small = room.fresh_small })
