@@ -19,7 +19,7 @@ use Rattle.heap_parts.specs.Collects.{StepsMajor}
 use Rattle.frame_laws.proofs.Filters.{filter_none}
 use Rattle.frame_laws.proofs.PlaceLaws.{young-is_in}
 use Rattle.heap_phases.specs.Steps.{CanStep, CanQueue}
-use Rattle.heap_phases.specs.Visiting.{old_roots, with_gray}
+use Rattle.heap_phases.specs.Visiting.{QueuesRoots, old_roots, with_gray}
 use Rattle.heap_phases.proofs.SweepSteps.{in_phase}
 use Rattle.heap_phases.proofs.StepContracts.{starts_major}
 
@@ -58,9 +58,17 @@ roots_listed heap gray second gray2 gray3 chosen queued can a b c d e =
     e ∙ (ap₂ (λ (xs ys : List ℕ). xs ++ old_places ys) d waiting ∙ (append_assoc gray (old_places heap.slots) _
     ∙ ap (λ (xs : List ℕ). gray ++ xs) (ap (λ (xs : List ℕ). old_places heap.slots ++ xs) (sym rest) ∙ sym (filter-append test heap.slots _))))
 
+-- nothing is gray before marking starts
+none_gray : (heap : HeapParts) → CanStep heap → heap.phase ≡ Scanning → heap.gray ≡ []
+none_gray heap can scanning = subst (λ (phase : Phase). IsGrayOf phase heap.gray) scanning can.collected.stands.gray_phase
+
+-- so only the roots are afterwards
+pub roots_queued : (heap mid : HeapParts) → CanStep heap → heap.phase ≡ Scanning → mid ≡ with_gray heap (heap.gray ++ old_roots heap) → QueuesRoots heap mid
+roots_queued heap mid can scanning queued = ap (λ (h : HeapParts). h.gray) queued ∙ ap (λ (gs : List ℕ). gs ++ old_roots heap) (none_gray heap can scanning)
+
 pub start_major : (heap mid : HeapParts) (before after : List Line) → CanStep heap → heap.phase ≡ Scanning → mid ≡ with_gray heap (heap.gray ++ old_roots heap)
     → after ≡ before ++ (Stepped Scanning Marking ∷ []) → StepsMajor heap (in_phase mid Marking) before after
 start_major heap mid before after can scanning queued told =
-    let none : heap.gray ≡ [] = subst (λ (phase : Phase). IsGrayOf phase heap.gray) scanning can.collected.stands.gray_phase in
-    subst (λ (h : HeapParts). StepsMajor heap (in_phase h Marking) before after) (sym (queued ∙ ap (λ (gs : List ℕ). with_gray heap (gs ++ old_roots heap)) none))
+    let only : mid ≡ with_gray heap (old_roots heap) = queued ∙ ap (λ (gs : List ℕ). with_gray heap (gs ++ old_roots heap)) (none_gray heap can scanning) in
+    subst (λ (h : HeapParts). StepsMajor heap (in_phase h Marking) before after) (sym only)
     (starts_major heap before after scanning told)

@@ -18,6 +18,11 @@ old_roots heap = filter (λ q. not (is_young q)) (heap.slots
     ++ (map (λ entry. entry.0) heap.pins
     ++ (map (λ entry. entry.0) heap.chosen ++ (flat_map (λ entry. entry.1) heap.queues ++ forced_objects heap.links.structs))))
 
+-- what is to be visited is the old places of the roots, in this order
+abbrev pub QueuesRoots : HeapParts → HeapParts → Type 0
+QueuesRoots old new = new.gray ≡ old_roots old
+
+-- the heap where this is to be visited
 abbrev pub with_gray : HeapParts → List ℕ → HeapParts
 with_gray heap gray = record heap { gray = gray }
 

@@ -4,7 +4,7 @@ ghost use Rattle.text_model.specs.declared.line.Phase.TheVariants.{Scanning};
 ghost use Rattle.heap_parts.specs.Places.{is_young};
 ghost use Rattle.heap_parts.specs.Collects.{StepsMajor};
 ghost use Rattle.heap_phases.specs.Steps.{CanStep, CountsHusks, CanQueue};
-ghost use Rattle.heap_phases.specs.Visiting.{old_roots, with_gray};
+ghost use Rattle.heap_phases.specs.Visiting.{QueuesRoots, old_roots, with_gray};
 
 use crate::StepEnd;
 use heap_parts::Parts;
@@ -15,7 +15,8 @@ use text_model::{Line, Phase};
 /// The first place outside the nursery.
 const FIRST_OLD: u64 = 4_294_967_296;
 
-/// Marking starts: the objects of the roots that lie outside the nursery are to be visited.
+/// Marking starts: the objects of the roots that lie outside the nursery are to be visited, and
+/// nothing else is.
 pub(crate) fn start(
     parts: &mut Parts,
     places: &mut Vec<u64>,
@@ -26,6 +27,7 @@ pub(crate) fn start(
     ensures steps { OnOk result (StepsMajor parts.old parts.new events.old.items events.new.items) }
     ensures counts { IfOk result (λ end. CountsHusks parts.old parts.new end) }
     ensures freed { IfOk result (λ end. end.freed_words ≡ 0) }
+    ensures queued { OnOk result (QueuesRoots parts.old parts.new) }
 {
     queue_roots(parts, places)?;
     parts.phase = Phase::Marking;
