@@ -1,12 +1,11 @@
 -- What a collection can count: objects are fewer than births, and their words no more than the nursery had.
-use Rattle.std.proofs.Common.{◌≡◌, ℕ, suc, ◌+◌, ◌<◌, ◌≤◌, Bool, IsTrue, List, [], ◌∷◌, map, length, refl, sym, ap, ◌∙◌, subst, inl, inr, arith}
+use Rattle.std.proofs.Common.{◌≡◌, ℕ, suc, ◌+◌, ◌<◌, ◌≤◌, Bool, IsTrue, List, [], ◌∷◌, map, length, refl, ap, inl, inr, arith}
 use Rattle.std.specs.Prelude.{sum_by, filter, not, ◌^◌}
 use Rattle.std.proofs.lemmas.Bool.{cases_Bool}
 use Rattle.std.proofs.lemmas.List.Sums.{sum_by-cons}
 use Rattle.object_model.specs.Sets.{is_in}
 use Rattle.object_model.specs.ObjectWords.{words_at}
 use Rattle.object_model.proofs.Members.{is_in-nil, is_in-cases}
-use Rattle.store_model.specs.Store.{unsettled_words}
 use Rattle.heap_parts.specs.Parts.{HeapParts, word_in}
 use Rattle.heap_parts.specs.Places.{is_young, RiseBetween, young_places, old_places}
 use Rattle.frame_laws.proofs.PlaceLaws.{placed_words}

@@ -1,23 +1,20 @@
 -- Spans are drained, one behind another.
-use Rattle.std.proofs.Common.{◌≡◌, ◌≢◌, ℕ, zero, suc, ◌+◌, ◌<◌, ◌≤◌, ◌⊎◌, Bool, true, false, IsTrue, List, [], ◌∷◌, Option, Some, None, slice_get, length, refl, sym, ap, ◌∙◌, subst, inl, inr, arith}
+use Rattle.std.proofs.Common.{◌≡◌, ℕ, ◌+◌, ◌<◌, ◌≤◌, Bool, true, false, List, [], Some, slice_get, length, refl, sym, ap, ◌∙◌, subst, inl, inr, arith}
 use Rattle.std.specs.Prelude.{◌==◌, ◌&&◌, not, nat_le, nat_lt, slice_index_or}
 use Rattle.std.proofs.lemmas.Bool.{cases_Bool}
 use Rattle.std.proofs.lemmas.Bool.Decides.{nat_tests, eqb_tells}
 use Rattle.std.proofs.lemmas.Option.{slice_get-get_or}
 use Rattle.type_table.specs.declared.info.TypeInfo.{TypeInfo}
 use Rattle.type_table.specs.Table.{Table}
-use Rattle.object_view.proofs.LayoutLaws.{KeepsLayout}
 use Rattle.object_model.specs.Layout.{Layout}
-use Rattle.object_model.specs.Sets.{is_in}
 use Rattle.object_model.specs.ObjectWords.{layout_at}
 use Rattle.remember_cards.specs.declared.Span.{Span}
 use Rattle.store_model.specs.Store.{Store}
-use Rattle.heap_parts.specs.Parts.{HeapParts, word_in, pinned_places}
-use Rattle.heap_parts.specs.Places.{old_places}
+use Rattle.heap_parts.specs.Parts.{HeapParts}
 use Rattle.frame_laws.proofs.PlaceLaws.{old-is_in}
 use Rattle.minor_collect.specs.declared.work.Moving.{Moving}
 use Rattle.minor_collect.specs.Midway.{Follows, Owes, IsDone}
-use Rattle.minor_collect.specs.Calls.{Stage, Spot, Middle, Standing, Grows, MayLead, FollowedItems, CanFollowItems}
+use Rattle.minor_collect.specs.Calls.{Stage, Spot, Standing, Grows, MayLead, FollowedItems, CanFollowItems}
 use Rattle.minor_collect.specs.Spans.{MaySpan, CanDrainSpan, DrainedSpan, CanDrainSpans, DrainedSpans, without_span}
 use Rattle.minor_collect.proofs.FollowLaws.{grows_none, adds_none}
 use Rattle.minor_collect.proofs.GrowLaws.{grows_twice, adds_twice}

@@ -1,6 +1,6 @@
 -- Registered objects are followed, one behind another.
-use Rattle.std.proofs.Common.{◌≡◌, ◌≢◌, ℕ, zero, suc, ◌+◌, ◌<◌, ◌≤◌, ◌⊎◌, Bool, true, false, IsTrue, List, [], ◌∷◌, ◌++◌, map, length, Option, Some, None, slice_get, nat_eq, refl, sym, ap, ◌∙◌, subst, inl, inr, arith}
-use Rattle.std.specs.Prelude.{◌||◌, ◌&&◌, ◌==◌, not, slice_set, slice_index_or}
+use Rattle.std.proofs.Common.{◌≡◌, ◌≢◌, ℕ, zero, suc, ◌+◌, ◌<◌, Bool, true, false, IsTrue, List, [], ◌∷◌, ◌++◌, map, length, Some, slice_get, nat_eq, refl, sym, ap, ◌∙◌, subst, inl, inr, arith}
+use Rattle.std.specs.Prelude.{◌&&◌, ◌==◌, not, slice_set, slice_index_or}
 use Rattle.std.specs.List.{IsDistinct, AllByRecursion}
 use Rattle.std.proofs.lemmas.Bool.{ne_eqb}
 use Rattle.std.proofs.lemmas.Bool.Decides.{eqb_tells}
@@ -11,7 +11,7 @@ use Rattle.object_model.proofs.Members.{is_in-head, is_in-tail, is_in-named, and
 use Rattle.object_model.proofs.Distinct.{differ-in}
 use Rattle.finalizer_order.specs.declared.entry.Entry.{Entry}
 use Rattle.finalizer_order.specs.Finalizers.{Finalizers, placed, places_of}
-use Rattle.finalizer_order.specs.Moves.{Moves, MovesOne, MovesNone}
+use Rattle.finalizer_order.specs.Moves.{Moves}
 use Rattle.store_model.specs.Store.{Store}
 use Rattle.store_model.specs.Roots.{registered_births}
 use Rattle.store_model.specs.Sound.{waiting_births}
@@ -26,8 +26,8 @@ use Rattle.heap_parts.proofs.FinalLaws.{with_finals}
 use Rattle.birth_laws.proofs.BirthNames.{entries-names}
 use Rattle.minor_collect.specs.Carried.{Moved}
 use Rattle.minor_collect.specs.declared.work.Moving.{Moving}
-use Rattle.minor_collect.specs.Midway.{Midway, Changing, Placing, Owes, FollowsLists, IsLasting, FollowedTo}
-use Rattle.minor_collect.specs.Calls.{Stage, Spot, Middle, MayBeFound, Standing, Grows, Followed, LeadsTo, CanFollow, CanFollowLists, is_entry_at}
+use Rattle.minor_collect.specs.Midway.{Midway, Changing, Placing, Owes, IsLasting}
+use Rattle.minor_collect.specs.Calls.{Stage, Spot, MayBeFound, Standing, Followed, CanFollow, CanFollowLists, is_entry_at}
 use Rattle.minor_collect.specs.Registered.{registered_places, without_registered, MovesEntry, CanFollowEntry, FollowedEntry, FollowedEntries}
 use Rattle.minor_collect.proofs.OpenStep.{midway_follows}
 use Rattle.minor_collect.proofs.FollowLaws.{grows_none, adds_none}

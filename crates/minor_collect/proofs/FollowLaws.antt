@@ -1,11 +1,10 @@
 -- A reference that is followed without a move.
 use Rattle.std.proofs.Common.{◌≡◌, ◌≢◌, ℕ, false, IsTrue, [], refl, sym, ap, append-nil, arith}
 use Rattle.object_model.specs.Sets.{is_in}
-use Rattle.object_model.specs.Holds.{IsPointer}
 use Rattle.heap_parts.specs.Parts.{HeapParts, pinned_places}
 use Rattle.minor_collect.specs.declared.work.Moving.{Moving}
 use Rattle.minor_collect.specs.Midway.{is_lasting}
-use Rattle.minor_collect.specs.Calls.{Stage, Spot, MayBeFound, Standing, Grows, AddsTodo, Followed, LeadsTo, CanFollow, CanFollowStill, CanMoveOut}
+use Rattle.minor_collect.specs.Calls.{Stage, Spot, Standing, Grows, AddsTodo, Followed, LeadsTo, CanFollow, CanFollowStill, CanMoveOut}
 
 pub grows_none : (stage : Stage) (spot : Spot) → Grows stage spot spot
 grows_none stage spot = record { met = λ x t. t; names = λ x t. refl; stay = λ q t l. t; found = λ x t. t; held = λ q t. t }

@@ -1,5 +1,5 @@
 -- In the middle of a collection the weak objects can be looked at.
-use Rattle.std.proofs.Common.{◌≡◌, ℕ, ◌+◌, ◌<◌, ◌≤◌, ◌⊎◌, true, false, IsTrue, List, [], refl, sym, ap, ◌∙◌, subst, inl, inr, map, arith}
+use Rattle.std.proofs.Common.{◌≡◌, ℕ, ◌+◌, ◌≤◌, ◌⊎◌, IsTrue, List, [], refl, sym, ◌∙◌, subst, inl, inr, map, arith}
 use Rattle.heap_space.specs.Memory.{Memory}
 use Rattle.heap_space.specs.Places.{lies_in_one, word_at}
 use Rattle.heap_space.specs.Extents.{extent_of}
@@ -9,14 +9,13 @@ use Rattle.object_view.proofs.ForwardLaws.{header-unmarked}
 use Rattle.object_view.proofs.LayoutLaws.{laid_out, weak-at}
 use Rattle.object_model.specs.Sets.{is_in}
 use Rattle.object_model.specs.Holds.{IsPointer}
-use Rattle.object_model.specs.ObjectWords.{info_at, layout_at, words_at}
+use Rattle.object_model.specs.ObjectWords.{info_at, words_at}
 use Rattle.type_table.specs.declared.info.Shape.TheVariants.{Weak}
 use Rattle.weak_lists.specs.Conditions.{CanFollow, IsFollowed}
 use Rattle.weak_lists.specs.Targets.{target_at, ChangesTargets, weaks_left, followed, is_gone}
 use Rattle.weak_lists.specs.Cleared.{TellsInOrder, births_losing}
 use Rattle.heap_parts.specs.Parts.{HeapParts, word_in}
 use Rattle.minor_collect.specs.Calls.{Stage, Spot, Middle}
-use Rattle.minor_collect.specs.Midway.{with_changing, changing_of}
 use Rattle.minor_collect.specs.WeakPass.{PassesWeaks}
 use Rattle.minor_collect.proofs.Weaks.{now_place, weak_was}
 use Rattle.minor_collect.proofs.WeakPass.{weak-shape}

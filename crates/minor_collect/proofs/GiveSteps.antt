@@ -1,5 +1,5 @@
 -- Homes are given back, one object after another.
-use Rattle.std.proofs.Common.{◌≡◌, ℕ, ◌++◌, false, IsTrue, List, [], ◌∷◌, Option, Some, None, refl, sym, ap, ◌∙◌, subst, inl, inr}
+use Rattle.std.proofs.Common.{◌≡◌, ℕ, ◌++◌, false, IsTrue, List, [], ◌∷◌, Option, Some, None, refl, sym, ap, ◌∙◌, inl, inr}
 use Rattle.object_model.specs.Sets.{is_in}
 use Rattle.object_model.proofs.Members.{is_in-nil, is_in-cases, in-either}
 use Rattle.heap_parts.specs.Parts.{HeapParts, home_in}

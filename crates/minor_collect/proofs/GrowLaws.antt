@@ -1,15 +1,13 @@
 -- Steps that leave more, one behind another.
-use Rattle.std.proofs.Common.{◌≡◌, ℕ, ◌+◌, ◌⊎◌, Bool, true, false, IsTrue, List, [], ◌++◌, refl, sym, ap, ap₂, ◌∙◌, subst, inl, inr, arith, length}
+use Rattle.std.proofs.Common.{◌≡◌, ℕ, ◌+◌, Bool, true, false, IsTrue, List, [], ◌++◌, refl, sym, ap, ◌∙◌, inl, inr, arith, length}
 use Rattle.std.specs.Prelude.{◌||◌, ◌==◌, not}
-use Rattle.std.specs.List.{list_any}
 use Rattle.std.proofs.lemmas.List.{append_assoc, length-append}
 use Rattle.std.proofs.lemmas.List.Folds.{list_any-append}
-use Rattle.std.proofs.lemmas.Bool.{cases_Bool}
 use Rattle.object_model.specs.Sets.{is_in}
 use Rattle.heap_parts.specs.Parts.{pinned_places}
 use Rattle.heap_parts.specs.Places.{is_young}
 use Rattle.minor_collect.specs.declared.work.Moving.{Moving}
-use Rattle.minor_collect.specs.Midway.{is_lasting, IsDone}
+use Rattle.minor_collect.specs.Midway.{IsDone}
 use Rattle.minor_collect.specs.Calls.{Stage, Spot, Grows, AddsTodo}
 
 pub grows_twice : {stage : Stage} {a b c : Spot} → Grows stage a b → Grows stage b c → Grows stage a c

@@ -1,20 +1,18 @@
 -- An object is held for the next collection, since it refers to a pinned one.
-use Rattle.std.proofs.Common.{◌≡◌, ◌≢◌, ℕ, ◌+◌, ◌%◌, ◌<◌, ◌≤◌, ◌⊎◌, Bool, true, false, IsTrue, List, [], ◌∷◌, ◌++◌, map, refl, sym, ap, ap₂, ◌∙◌, subst, inl, inr, arith}
+use Rattle.std.proofs.Common.{◌≡◌, ℕ, ◌+◌, Bool, true, false, IsTrue, List, [], ◌∷◌, ◌++◌, map, refl, sym, ap, ◌∙◌, subst, inl, inr, arith}
 use Rattle.std.specs.Prelude.{◌==◌, ◌&&◌, ◌||◌, not, if◌then◌else◌}
 use Rattle.std.specs.List.{list_any}
 use Rattle.std.proofs.lemmas.Bool.{cases_Bool}
 use Rattle.std.proofs.lemmas.List.Folds.{list_any-append}
 use Rattle.type_table.specs.declared.info.TypeInfo.{TypeInfo}
 use Rattle.type_table.specs.Table.{Table}
-use Rattle.object_header.specs.Words.{has_flag, without_flag}
-use Rattle.object_header.specs.declared.flags.Flag.{Flag}
+use Rattle.object_header.specs.Words.{without_flag}
 use Rattle.object_header.specs.declared.flags.Flag.TheVariants.{Track, CardsSet}
 use Rattle.object_header.proofs.WordLaws.{has_flag-without_flag_same, has_flag-without_flag_other, type_of-without_flag, IsHeader-without_flag}
 use Rattle.object_model.specs.Sets.{is_in}
-use Rattle.object_model.proofs.Members.{is_in-last, is_in-tail, is_in-cases}
-use Rattle.remember_cards.specs.Remembered.{Held, Remembered, held_whole, held_places, has_any, is_whole_among, has_cards_among, is_held_whole, has_held_cards, RemembersMore}
+use Rattle.object_model.proofs.Members.{is_in-last, is_in-tail}
+use Rattle.remember_cards.specs.Remembered.{Held, Remembered, held_whole, held_places, is_held_whole, has_held_cards, RemembersMore}
 use Rattle.remember_cards.specs.Remembering.{Remembering, remembered_by, kept_place}
-use Rattle.remember_cards.specs.Tracking.{IsTracked}
 use Rattle.remember_cards.proofs.KeptLaws.{cards_kept}
 use Rattle.store_model.specs.Store.{Store}
 use Rattle.std.proofs.lemmas.Bool.Decides.{eqb_tells}

@@ -1,40 +1,26 @@
 -- One reference of an object outside the nursery is followed.
-use Rattle.std.proofs.Common.{◌≡◌, ◌≢◌, ℕ, ◌+◌, ◌<◌, ◌≤◌, ◌⊎◌, Bool, true, false, IsTrue, List, [], ◌∷◌, ◌++◌, map, Option, Some, None, refl, sym, ap, ◌∙◌, subst, inl, inr, arith}
-use Rattle.std.specs.Prelude.{◌==◌, ◌&&◌, ◌||◌, not, if◌then◌else◌, slice_get, option_and_then}
-use Rattle.std.proofs.lemmas.Bool.{cases_Bool, ne_eqb}
-use Rattle.std.proofs.lemmas.Bool.Decides.{eqb_tells}
+use Rattle.std.proofs.Common.{◌≡◌, ◌≢◌, ℕ, ◌+◌, ◌<◌, Bool, true, false, IsTrue, List, [], refl, sym, ap, ◌∙◌, subst, inl, inr, arith}
+use Rattle.std.specs.Prelude.{◌==◌, ◌&&◌, not}
 use Rattle.type_table.specs.declared.info.TypeInfo.{TypeInfo}
 use Rattle.type_table.specs.Table.{Table}
 use Rattle.heap_space.specs.Places.{word_at}
-use Rattle.object_view.specs.Views.{HasView, view_at}
-use Rattle.object_view.specs.declared.fields.ObjView.{ObjView}
-use Rattle.object_view.specs.Moving.{HasLeft}
 use Rattle.object_view.proofs.WordLaws.{updated-here, updated-other}
-use Rattle.object_view.proofs.LayoutLaws.{laid_out, SameAt, KeepsLayout, keeps-same}
+use Rattle.object_view.proofs.LayoutLaws.{laid_out, KeepsLayout, keeps-same}
 use Rattle.object_view.proofs.ChangeLaws.{Changes, each-keeps}
 use Rattle.object_view.proofs.ForwardLaws.{changes-pointer}
-use Rattle.object_view.proofs.FoundLaws.{found-at, ref-from}
 use Rattle.object_model.specs.Layout.{Layout}
-use Rattle.object_model.specs.Object.{Object}
-use Rattle.object_model.specs.Fields.{refs_of}
 use Rattle.object_model.specs.Sets.{is_in}
-use Rattle.object_model.specs.ObjectWords.{updated, renamed, words_at, layout_at, type_id_at, object_from}
+use Rattle.object_model.specs.ObjectWords.{updated, renamed, words_at, layout_at}
 use Rattle.object_model.specs.Holds.{HoldsObjects, IsPointer}
-use Rattle.store_model.specs.MarkingOrder.{IsItem}
 use Rattle.store_model.specs.Store.{Store}
 use Rattle.object_view.specs.Moving.{IsMoving}
 use Rattle.heap_parts.specs.Parts.{HeapParts, word_in, home_in, pinned_places}
-use Rattle.heap_parts.specs.Places.{is_young, old_places}
+use Rattle.heap_parts.specs.Places.{old_places}
 use Rattle.heap_parts.specs.Effects.{with_word_at}
 use Rattle.frame_laws.proofs.KeepWords.{SameWords}
-use Rattle.frame_laws.proofs.PlaceLaws.{old-is_in, is_in-old}
-use Rattle.minor_collect.specs.declared.work.Moving.{Moving}
-use Rattle.minor_collect.specs.Midway.{Midway, Follows, Owes, changing_of, is_lasting, IsLasting, IsDone, FollowsLists, FollowedTo}
-use Rattle.minor_collect.specs.Calls.{Stage, Spot, Middle, MayBeFound, MayLead, Standing, Grows, Followed, FollowedItem, HeldFor, CanFollow, CanFollowItem, CanHold, leads_young, spot_held, item_word, LeadsTo, remembered_at, entries_of}
-use Rattle.minor_collect.proofs.Ended.{some-item}
-use Rattle.minor_collect.proofs.FollowCases.{renamed-some}
+use Rattle.minor_collect.specs.Midway.{Follows, Owes, IsDone}
+use Rattle.minor_collect.specs.Calls.{Stage, Spot, Middle, item_word, remembered_at, entries_of}
 use Rattle.minor_collect.proofs.FollowStep.{midway_rewrites, item_follows, item_objects, item_moving}
-use Rattle.minor_collect.proofs.OpenStep.{midway_follows}
 use Rattle.minor_collect.proofs.Sizes.{sizes_stay}
 use Rattle.minor_collect.proofs.WriteMid.{place_there, husk_same, shadow_first, blocks_written, words_written, whole_written, nursery_written}
 

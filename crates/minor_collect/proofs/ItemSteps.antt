@@ -1,6 +1,6 @@
 -- The steps by which one reference is followed, joined.
-use Rattle.std.proofs.Common.{◌≡◌, ◌≢◌, ℕ, ◌+◌, ◌<◌, ◌≤◌, ◌⊎◌, Bool, true, false, IsTrue, List, [], ◌∷◌, ◌++◌, Option, Some, None, refl, sym, ap, ◌∙◌, subst, inl, inr, arith}
-use Rattle.std.specs.Prelude.{◌==◌, ◌&&◌, ◌||◌, not, if◌then◌else◌, slice_get, option_and_then}
+use Rattle.std.proofs.Common.{◌≡◌, ◌≢◌, ℕ, ◌+◌, ◌<◌, Bool, true, false, IsTrue, List, [], ◌∷◌, Option, Some, refl, sym, ap, ◌∙◌, subst, inl, inr, arith}
+use Rattle.std.specs.Prelude.{◌||◌, not, if◌then◌else◌, slice_get}
 use Rattle.std.proofs.lemmas.Bool.{cases_Bool, ne_eqb}
 use Rattle.type_table.specs.declared.info.TypeInfo.{TypeInfo}
 use Rattle.type_table.specs.Table.{Table}
@@ -11,7 +11,7 @@ use Rattle.object_view.specs.declared.fields.ObjView.{ObjView}
 use Rattle.object_view.proofs.LayoutLaws.{laid_out, SameAt, KeepsLayout, keeps-same}
 use Rattle.object_view.proofs.FoundLaws.{found-at, ref-from}
 use Rattle.object_model.specs.Layout.{Layout}
-use Rattle.object_model.specs.Object.{Object, object_at}
+use Rattle.object_model.specs.Object.{Object}
 use Rattle.object_model.specs.Fields.{refs_of}
 use Rattle.object_model.specs.Sets.{is_in}
 use Rattle.object_model.specs.ObjectWords.{renamed, words_at, layout_at, object_from}
@@ -24,10 +24,9 @@ use Rattle.heap_parts.specs.Places.{is_young, old_places}
 use Rattle.heap_parts.specs.Effects.{with_word_at}
 use Rattle.frame_laws.proofs.PlaceLaws.{old-is_in, is_in-old}
 use Rattle.minor_collect.specs.declared.work.Moving.{Moving}
-use Rattle.minor_collect.specs.Midway.{is_lasting, IsLasting, IsDone, FollowsLists, FollowedTo}
-use Rattle.minor_collect.specs.Calls.{Stage, Spot, Middle, MayBeFound, MayLead, Standing, Grows, Followed, FollowedItem, HeldFor, CanFollow, CanFollowItem, CanHold, leads_young, spot_held, item_word, LeadsTo, linked_places}
+use Rattle.minor_collect.specs.Midway.{is_lasting, IsLasting, IsDone, FollowsLists}
+use Rattle.minor_collect.specs.Calls.{Stage, Spot, Middle, MayBeFound, MayLead, Standing, Grows, Followed, FollowedItem, HeldFor, CanFollow, CanFollowItem, CanHold, leads_young, spot_held, item_word, linked_places}
 use Rattle.minor_collect.proofs.Ended.{some-item}
-use Rattle.minor_collect.proofs.FollowCases.{renamed-some}
 use Rattle.minor_collect.proofs.ItemLaws.{middle_item, item_layouts, item_here, item_other}
 
 -- an item that leads somewhere refers to the object there

@@ -1,10 +1,10 @@
 -- References of an object are followed one behind another.
-use Rattle.std.proofs.Common.{◌≡◌, ◌≢◌, ℕ, ◌+◌, ◌<◌, ◌≤◌, ◌⊎◌, Bool, true, false, IsTrue, List, [], refl, sym, ap, ◌∙◌, subst, inl, inr, arith}
+use Rattle.std.proofs.Common.{◌≡◌, ◌≢◌, ℕ, ◌+◌, ◌<◌, ◌≤◌, IsTrue, [], refl, sym, ap, ◌∙◌, subst, inl, inr, arith}
 use Rattle.std.proofs.lemmas.Bool.Decides.{eqb_tells}
 use Rattle.heap_space.specs.Places.{lies_in_one}
 use Rattle.object_view.specs.Views.{HasObject, HasView, view_at, view_of}
 use Rattle.object_view.specs.declared.fields.ObjView.{ObjView}
-use Rattle.object_view.proofs.LayoutLaws.{KeepsLayout, keeps-same}
+use Rattle.object_view.proofs.LayoutLaws.{keeps-same}
 use Rattle.object_model.specs.Layout.{Layout}
 use Rattle.object_model.specs.Sets.{is_in}
 use Rattle.object_model.specs.ObjectWords.{layout_at, words_at}
@@ -13,7 +13,7 @@ use Rattle.heap_parts.specs.Places.{old_places}
 use Rattle.frame_laws.proofs.PlaceLaws.{old-is_in}
 use Rattle.minor_collect.specs.declared.work.Moving.{Moving}
 use Rattle.minor_collect.specs.Midway.{IsDone}
-use Rattle.minor_collect.specs.Calls.{Stage, Spot, Middle, MayLead, Standing, Grows, FollowedItem, FollowedItems, CanFollowItem, CanFollowItems, item_word}
+use Rattle.minor_collect.specs.Calls.{Stage, Spot, MayLead, Standing, FollowedItem, FollowedItems, CanFollowItem, CanFollowItems, item_word}
 use Rattle.minor_collect.proofs.FollowLaws.{grows_none, adds_none}
 use Rattle.minor_collect.proofs.GrowLaws.{grows_twice, adds_twice, done_stays}
 use Rattle.minor_collect.proofs.ItemSteps.{old_stays, keeps-twice, view_moves, seen}

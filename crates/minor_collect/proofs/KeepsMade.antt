@@ -1,5 +1,5 @@
 -- Where homes are given back, the numbers stay that memory and blocks were made with, and the words of the nursery lie together.
-use Rattle.std.proofs.Common.{◌≡◌, ◌≤◌, refl, ◌∙◌, arith}
+use Rattle.std.proofs.Common.{◌≡◌, refl, ◌∙◌, arith}
 use Rattle.heap_space.specs.Memory.{Memory}
 use Rattle.heap_space.specs.Extents.{KeepsOutside}
 use Rattle.old_space.specs.HasBlocks.{KeepsSizes}

@@ -1,10 +1,8 @@
 -- Links follow an object that moved.
-use Rattle.std.proofs.Common.{◌≡◌, ◌≢◌, ℕ, ◌+◌, Bool, true, false, IsTrue, List, [], ◌∷◌, map, Option, Some, None, refl, sym, ap, ◌∙◌, subst, inl, inr}
-use Rattle.std.specs.Prelude.{◌==◌, if◌then◌else◌, filter_map, option_map, option_and_then}
-use Rattle.std.specs.List.{All}
+use Rattle.std.proofs.Common.{◌≡◌, ◌≢◌, ℕ, false, IsTrue, List, [], ◌∷◌, map, refl, sym, ap, ◌∙◌, subst}
+use Rattle.std.specs.Prelude.{filter_map, option_and_then}
 use Rattle.std.proofs.lemmas.List.Elements.{All-nil, All-cons}
 use Rattle.std.proofs.lemmas.Bool.{ne_eqb}
-use Rattle.std.proofs.lemmas.Bool.Decides.{eqb_tells}
 use Rattle.type_table.specs.Table.{Table, KeysRise, value_at}
 use Rattle.object_model.specs.Sets.{is_in}
 use Rattle.object_model.proofs.Members.{is_in-head, is_in-tail}
@@ -14,8 +12,6 @@ use Rattle.rawref_links.specs.Conditions.{HasNoLink}
 use Rattle.store_model.proofs.StructLaws.{value_at-objects}
 use Rattle.heap_parts.specs.Lists.{HoldsLinks}
 use Rattle.birth_laws.proofs.BirthNames.{links_agree}
-use Rattle.frame_laws.proofs.PlaceLaws.{named-by}
-use Rattle.minor_collect.specs.Calls.{linked_places, after_move}
 use Rattle.minor_collect.proofs.ListSteps.{objects-twice, is-renamed}
 
 -- the linked objects, under another name

@@ -1,6 +1,6 @@
 -- Slots, registered objects and links follow: the middle stays, and less is owed.
 use Rattle.std.proofs.Common.{◌≡◌, ◌≢◌, ℕ, zero, suc, ◌⊎◌, Bool, IsTrue, List, [], ◌∷◌, map, length, Option, Some, None, refl, sym, ap, ◌∙◌, subst, inl, inr}
-use Rattle.std.specs.Prelude.{not, ◌&&◌, ◌==◌, slice_get, slice_set, option_map, option_and_then, filter_map, true, false}
+use Rattle.std.specs.Prelude.{not, ◌==◌, slice_get, slice_set, option_map, option_and_then, filter_map, true, false}
 use Rattle.std.proofs.lemmas.Bool.Decides.{eqb_tells}
 use Rattle.type_table.specs.declared.info.TypeInfo.{TypeInfo}
 use Rattle.type_table.specs.Table.{Table, KeysRise, value_at}

@@ -1,14 +1,13 @@
 -- The first word of an object outside the nursery tells anew what is remembered of it.
-use Rattle.std.proofs.Common.{◌≡◌, ◌≢◌, ℕ, ◌+◌, ◌%◌, ◌<◌, ◌≤◌, ◌⊎◌, Bool, true, false, IsTrue, List, [], ◌∷◌, map, refl, sym, ap, ◌∙◌, subst, inl, inr, arith}
+use Rattle.std.proofs.Common.{◌≡◌, ◌≢◌, ℕ, ◌+◌, ◌%◌, ◌<◌, IsTrue, [], sym, ap, ◌∙◌, subst, inl, inr, arith}
 use Rattle.type_table.specs.declared.info.TypeInfo.{TypeInfo}
 use Rattle.type_table.specs.Table.{Table}
 use Rattle.heap_space.specs.Places.{word_at}
 use Rattle.object_header.specs.Words.{IsHeader, has_flag}
 use Rattle.object_header.specs.declared.flags.Flag.{Flag}
 use Rattle.object_header.specs.declared.flags.Flag.TheVariants.{Track, Visited, HasShadow, Pinned, HasCards, CardsSet, Free, Shadow, Order1, Order2}
-use Rattle.object_view.specs.Moving.{HasLeft}
-use Rattle.object_view.proofs.WordLaws.{updated-here, updated-other}
-use Rattle.object_view.proofs.LayoutLaws.{laid_out, SameAt, KeepsLayout}
+use Rattle.object_view.proofs.WordLaws.{updated-other}
+use Rattle.object_view.proofs.LayoutLaws.{laid_out, KeepsLayout}
 use Rattle.object_model.specs.Layout.{Layout}
 use Rattle.object_model.specs.Sets.{is_in}
 use Rattle.object_model.specs.ObjectWords.{updated, words_at}

@@ -1,10 +1,9 @@
 -- What the steps of a minor collection leave is a minor collection of every store that the parts stood for.
-use Rattle.std.proofs.Common.{◌≡◌, ◌+◌, List, [], ◌∷◌, ◌++◌, map, length, ap, ◌∙◌, subst, ℕ}
+use Rattle.std.proofs.Common.{◌≡◌, ◌+◌, List, [], ◌∷◌, ◌++◌, map, length, ap, ◌∙◌, ℕ}
 use Rattle.text_model.specs.declared.line.Line.{Line}
 use Rattle.text_model.specs.declared.line.Line.TheVariants.{MinorDone, Cleared, Destroyed, LinkCut}
 use Rattle.text_model.specs.declared.line.LinkEnd.{LinkEnd}
 use Rattle.object_model.specs.Sets.{is_in}
-use Rattle.object_model.specs.Setup.{Setup}
 use Rattle.store_model.specs.Links.{link_ends}
 use Rattle.heap_parts.specs.Collects.{CollectsMinor}
 use Rattle.heap_parts.specs.Parts.{HeapParts}

@@ -1,6 +1,6 @@
 -- The steps of a minor collection, one behind another: what each leaves is what the next asks for.
-use Rattle.std.proofs.Common.{◌≡◌, ◌≢◌, ℕ, suc, ◌+◌, ◌<◌, ◌≤◌, ◌⊎◌, Bool, true, false, IsTrue, List, [], ◌∷◌, ◌++◌, append_assoc, map, Option, Some, slice_get, refl, sym, ap, ◌∙◌, subst, inl, inr, arith}
-use Rattle.std.specs.Prelude.{sum_by, ◌^◌, ◌==◌, ◌||◌}
+use Rattle.std.proofs.Common.{◌≡◌, ℕ, suc, ◌+◌, ◌<◌, ◌⊎◌, Bool, true, false, IsTrue, List, [], ◌∷◌, ◌++◌, append_assoc, map, Some, slice_get, refl, sym, ap, ◌∙◌, subst, inl, inr, arith}
+use Rattle.std.specs.Prelude.{◌^◌, ◌==◌, ◌||◌}
 use Rattle.std.specs.List.{list_any}
 use Rattle.std.proofs.lemmas.Bool.{ne_eqb}
 use Rattle.std.proofs.lemmas.Bool.Decides.{eqb_tells}
@@ -17,14 +17,13 @@ use Rattle.object_model.specs.Sets.{is_in}
 use Rattle.remember_cards.specs.declared.Span.{Span}
 use Rattle.heap_parts.specs.Parts.{HeapParts, word_in}
 use Rattle.store_model.specs.Store.{Store}
-use Rattle.heap_parts.specs.Places.{old_places}
 use Rattle.heap_parts.specs.StandsFor.{PartsStandFor}
 use Rattle.frame_laws.proofs.PlaceLaws.{old-is_in}
 use Rattle.minor_collect.specs.declared.work.Moving.{Moving}
 use Rattle.minor_collect.specs.Calls.{Stage, Spot, Middle, Survived, CanBegin}
 use Rattle.minor_collect.specs.Drops.{CanGiveThen, Drops}
 use Rattle.minor_collect.specs.Minor.{CanCollect, Took, MovesSurvivors, Separates}
-use Rattle.minor_collect.specs.Queues.{CanQueue, CanQueueSpans, CanLookAt, Queues}
+use Rattle.minor_collect.specs.Queues.{CanQueue, CanQueueSpans, CanLookAt}
 use Rattle.minor_collect.specs.Remade.{CanRemake}
 use Rattle.minor_collect.specs.Spans.{TookAll}
 use Rattle.minor_collect.specs.Vanished.{IsMidway, FindsVanished}

@@ -1,26 +1,23 @@
 -- An object moved out of the nursery, and its links with it.
-use Rattle.std.proofs.Common.{◌≡◌, ◌≢◌, ℕ, ◌+◌, ◌<◌, ◌≤◌, ◌⊎◌, Bool, true, false, IsTrue, List, [], ◌∷◌, ◌++◌, map, Some, refl, sym, ap, ap₂, ◌∙◌, subst, inl, inr, arith}
-use Rattle.std.specs.Prelude.{◌==◌, ◌||◌, not, if◌then◌else◌, filter_map}
-use Rattle.std.proofs.lemmas.Bool.{cases_Bool, ne_eqb, eq-eqb}
+use Rattle.std.proofs.Common.{◌≡◌, ◌≢◌, ℕ, ◌+◌, ◌<◌, ◌≤◌, Bool, true, false, IsTrue, List, [], ◌∷◌, ◌++◌, map, Some, refl, sym, ap, ◌∙◌, subst, inl, inr, arith}
+use Rattle.std.proofs.lemmas.Bool.{ne_eqb, eq-eqb}
 use Rattle.std.proofs.lemmas.Bool.Decides.{eqb_tells}
 use Rattle.object_model.specs.Sets.{is_in}
-use Rattle.object_model.specs.ObjectWords.{updated, renamed, words_at}
+use Rattle.object_model.specs.ObjectWords.{updated, words_at}
 use Rattle.object_model.proofs.Members.{is_in-nil, is_in-head, is_in-tail, is_in-cases, is_in-last, is_in-before, is_in-append, not-in}
 use Rattle.object_view.proofs.WordLaws.{updated-here, updated-other}
 use Rattle.object_view.specs.Views.{HasObject}
-use Rattle.object_view.proofs.LayoutLaws.{SameAt, laid_out}
+use Rattle.object_view.proofs.LayoutLaws.{laid_out}
 use Rattle.object_view.proofs.MoveLaws.{moved_to, moved-here, moved-there}
 use Rattle.remember_cards.specs.Remembered.{is_held_whole}
 use Rattle.rawref_links.specs.Conditions.{HasNoLink}
-use Rattle.store_model.specs.Structs.{Structs, object_of, with_objects}
-use Rattle.store_model.specs.Store.{Struct}
+use Rattle.store_model.specs.Structs.{Structs, with_objects}
 use Rattle.heap_parts.specs.Parts.{HeapParts, word_in, pinned_places}
 use Rattle.heap_parts.specs.Places.{is_young}
-use Rattle.heap_parts.specs.Lists.{HoldsLinks}
 use Rattle.frame_laws.proofs.PlaceLaws.{is_in-young, old-is_in, named-by}
 use Rattle.minor_collect.specs.declared.work.Moving.{Moving}
-use Rattle.minor_collect.specs.Midway.{FollowsLists, FollowedTo, IsLasting, is_lasting, one_settled}
-use Rattle.minor_collect.specs.Calls.{Stage, Spot, Middle, MayBeFound, Waits, Settled, Standing, Grows, AddsTodo, Followed, CanMoveOut, CanRelocate, relinked, after_move, linked_places, spot_settled}
+use Rattle.minor_collect.specs.Midway.{FollowsLists, IsLasting, is_lasting}
+use Rattle.minor_collect.specs.Calls.{Stage, Spot, Middle, MayBeFound, Waits, Settled, Standing, Followed, CanMoveOut, CanRelocate, relinked, after_move, linked_places, spot_settled}
 use Rattle.minor_collect.proofs.Begins.{not-lasting}
 use Rattle.minor_collect.proofs.CountLaws.{objects_few, words_few}
 use Rattle.minor_collect.proofs.FollowCases.{renamed-some}

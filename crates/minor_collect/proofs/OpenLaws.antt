@@ -1,7 +1,6 @@
 -- Objects that moved are opened, until none is left.
-use Rattle.std.proofs.Common.{◌≡◌, ◌≢◌, ℕ, ◌+◌, ◌-◌, ◌<◌, ◌≤◌, ◌⊎◌, Bool, true, false, IsTrue, List, [], ◌∷◌, ◌++◌, map, length, refl, sym, ap, ◌∙◌, subst, inl, inr, arith}
-use Rattle.std.specs.Prelude.{◌||◌, ◌&&◌, ◌==◌, not, sum_by}
-use Rattle.std.proofs.lemmas.Bool.{cases_Bool}
+use Rattle.std.proofs.Common.{◌≡◌, ◌≢◌, ℕ, ◌+◌, ◌-◌, ◌<◌, ◌⊎◌, Bool, true, false, IsTrue, List, [], ◌∷◌, map, length, refl, sym, ap, ◌∙◌, subst, inl, inr, arith}
+use Rattle.std.specs.Prelude.{◌||◌, not}
 use Rattle.std.proofs.lemmas.List.{length-append}
 use Rattle.type_table.specs.declared.info.TypeInfo.{TypeInfo}
 use Rattle.type_table.specs.Table.{Table}
@@ -12,20 +11,19 @@ use Rattle.object_model.specs.Layout.{Layout}
 use Rattle.object_model.specs.Sets.{is_in}
 use Rattle.object_model.specs.ObjectWords.{layout_at}
 use Rattle.object_model.specs.Holds.{HoldsObjects}
-use Rattle.object_model.proofs.Members.{is_in-head, is_in-tail, is_in-cases, is_in-nil, is_in-named, and_first, and_second, and_both, in-left, in-right, in-either}
+use Rattle.object_model.proofs.Members.{is_in-head, is_in-tail, is_in-cases, is_in-named, and_first, and_second, and_both}
 use Rattle.store_model.specs.Store.{Store}
 use Rattle.store_model.specs.Roots.{is_kept, referents_in}
 use Rattle.store_model.specs.Reach.{refers}
-use Rattle.store_model.specs.MinorCollection.{is_unsettled, is_entry, refers_unsettled}
+use Rattle.store_model.specs.MinorCollection.{is_unsettled, refers_unsettled}
 use Rattle.store_model.proofs.FieldChanges.{item-referent, referent-item}
 use Rattle.store_model.proofs.Rounds.{LeadsTo-step}
 use Rattle.heap_parts.specs.Parts.{HeapParts, word_in, pinned_places}
 use Rattle.heap_parts.specs.Places.{is_young, old_places}
 use Rattle.frame_laws.proofs.PlaceLaws.{old-is_in, named-by}
 use Rattle.minor_collect.specs.declared.work.Moving.{Moving}
-use Rattle.minor_collect.specs.Entries.{has_remembered_referrer}
 use Rattle.minor_collect.specs.Midway.{Follows, Owes, IsDone, is_lasting}
-use Rattle.minor_collect.specs.Calls.{Stage, Spot, Middle, MayLead, Standing, Grows, FollowedItems, CanFollowItems, CanOpen, CanDrain, Drained, AreTodo, item_word, ref_count_at, remembered_at, entries_of}
+use Rattle.minor_collect.specs.Calls.{Stage, Spot, MayLead, Standing, FollowedItems, CanFollowItems, CanOpen, CanDrain, Drained, AreTodo, item_word, ref_count_at}
 use Rattle.minor_collect.proofs.CountLaws.{words_moved}
 use Rattle.minor_collect.proofs.EndStands.{item-word}
 use Rattle.minor_collect.proofs.FollowLaws.{grows_none}

@@ -1,22 +1,21 @@
 -- Objects at places are followed, one behind another.
-use Rattle.std.proofs.Common.{◌≡◌, ◌≢◌, ℕ, zero, suc, ◌+◌, ◌<◌, ◌≤◌, ◌⊎◌, Bool, true, false, IsTrue, List, [], ◌∷◌, ◌++◌, map, length, take, Option, Some, None, refl, sym, ap, ◌∙◌, subst, inl, inr, arith}
-use Rattle.std.specs.Prelude.{◌||◌, ◌&&◌, ◌==◌, not, filter_map, flat_map, slice_index_or, if◌then◌else◌}
+use Rattle.std.proofs.Common.{◌≡◌, ℕ, zero, suc, ◌+◌, ◌<◌, ◌⊎◌, Bool, true, false, IsTrue, List, [], ◌∷◌, ◌++◌, map, length, take, Some, None, refl, sym, ap, ◌∙◌, subst, inl, inr, arith}
+use Rattle.std.specs.Prelude.{◌||◌, ◌==◌, filter_map, flat_map, slice_index_or, if◌then◌else◌}
 use Rattle.std.proofs.lemmas.Bool.{cases_Bool}
 use Rattle.std.specs.List.{cons_option}
 use Rattle.std.proofs.Math.Seq.{take-suc, take-length}
 use Rattle.type_table.specs.Table.{Table}
 use Rattle.object_model.specs.Sets.{is_in}
-use Rattle.object_model.proofs.Members.{is_in-head, is_in-tail, is_in-cases, is_in-nil, is_in-named, in-right, in-left}
+use Rattle.object_model.proofs.Members.{is_in-head, is_in-tail, is_in-cases, is_in-nil, is_in-named, in-right}
 use Rattle.store_model.specs.Store.{Struct, Linked, Unlinked, Pending}
-use Rattle.store_model.specs.Structs.{Structs, object_of, forced_object, forced_objects, with_objects}
-use Rattle.store_model.specs.Roots.{roots_of, pinned_births}
+use Rattle.store_model.specs.Structs.{object_of, forced_objects, with_objects}
+use Rattle.store_model.specs.Roots.{pinned_births}
 use Rattle.store_model.specs.MinorCollection.{is_unsettled}
-use Rattle.heap_parts.specs.Parts.{HeapParts, pinned_places}
+use Rattle.heap_parts.specs.Parts.{HeapParts}
 use Rattle.frame_laws.proofs.PlaceLaws.{named-by}
 use Rattle.minor_collect.specs.declared.work.Moving.{Moving}
-use Rattle.minor_collect.specs.Midway.{FollowedTo}
-use Rattle.minor_collect.specs.Calls.{Stage, Spot, Middle, MayBeFound, MayFollow, Standing, Grows, Followed, FollowedPlaces, FollowedForced, CanFollow, CanFollowPlaces, CanFollowLists, LeadsTo, linked_places}
-use Rattle.minor_collect.proofs.FollowLaws.{grows_none, adds_none, some_place}
+use Rattle.minor_collect.specs.Calls.{Stage, Spot, MayBeFound, MayFollow, Standing, Followed, FollowedPlaces, FollowedForced, CanFollow, CanFollowPlaces, CanFollowLists}
+use Rattle.minor_collect.proofs.FollowLaws.{grows_none, adds_none}
 use Rattle.minor_collect.proofs.GrowLaws.{grows_twice, adds_twice, member-append}
 use Rattle.minor_collect.proofs.SlotSteps.{root_may}
 

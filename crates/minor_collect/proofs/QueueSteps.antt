@@ -1,6 +1,6 @@
 -- What written items refer to is queued, one behind another.
 use Rattle.std.proofs.Common.{◌≡◌, ◌≢◌, ℕ, zero, suc, ◌+◌, ◌<◌, ◌≤◌, ◌⊎◌, Bool, true, false, IsTrue, List, [], ◌∷◌, ◌++◌, Some, slice_get, refl, sym, ap, ◌∙◌, subst, inl, inr, arith}
-use Rattle.std.specs.Prelude.{◌==◌, ◌&&◌, ◌||◌, not, nat_le, nat_lt, if◌then◌else◌}
+use Rattle.std.specs.Prelude.{◌==◌, ◌&&◌, ◌||◌, not, nat_le, nat_lt}
 use Rattle.std.specs.List.{list_any}
 use Rattle.std.specs.List.Sorted.{IsPermutation}
 use Rattle.std.proofs.lemmas.List.Folds.{list_any-append}
@@ -12,14 +12,14 @@ use Rattle.object_view.proofs.LayoutLaws.{laid_out}
 use Rattle.object_view.proofs.SpaceLaws.{lies-at}
 use Rattle.object_header.specs.Words.{has_flag}
 use Rattle.object_header.specs.declared.flags.Flag.TheVariants.{Visited}
-use Rattle.object_view.specs.Views.{HasObject, HasView, view_at}
+use Rattle.object_view.specs.Views.{view_at}
 use Rattle.object_view.specs.declared.fields.ObjView.{ObjView}
 use Rattle.object_model.specs.Sets.{is_in}
 use Rattle.object_model.proofs.Members.{is_in-last, is_in-before, is_in-append}
 use Rattle.remember_cards.specs.declared.Span.{Span}
 use Rattle.heap_parts.specs.Parts.{HeapParts, word_in}
 use Rattle.heap_parts.specs.Places.{is_young}
-use Rattle.minor_collect.specs.Queues.{CanQueue, CanQueueSpans, CanLookAt, Queues, IsReferent, has_item, is_spanned, queued_with, is_to_queue, ref_word, refs_at}
+use Rattle.minor_collect.specs.Queues.{CanQueue, CanQueueSpans, Queues, IsReferent, has_item, is_spanned, queued_with, is_to_queue, ref_word, refs_at}
 
 -- a span has just its items
 pub has-item : (q j : ℕ) (span : Span) → IsTrue (has_item q j span) → (q ≡ span.a) × (span.from ≤ j) × (j < span.to)

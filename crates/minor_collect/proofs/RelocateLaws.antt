@@ -1,5 +1,5 @@
 -- An object moves home, or into a block that is taken first.
-use Rattle.std.proofs.Common.{◌≡◌, ◌≢◌, ℕ, ◌+◌, ◌<◌, ◌≤◌, Bool, cond, true, false, IsTrue, List, [], ◌∷◌, Option, Some, None, refl, sym, ap, ◌∙◌, subst, arith}
+use Rattle.std.proofs.Common.{◌≡◌, ◌≢◌, ℕ, Bool, cond, false, IsTrue, [], Some, None, refl, sym, ap, ◌∙◌, arith}
 use Rattle.std.specs.Ordering.{nat_cmp, eq_by_cmp}
 use Rattle.std.specs.Cmp.{nat_cmp_total}
 use Rattle.std.specs.FinMap as map_of
@@ -12,11 +12,8 @@ use Rattle.type_table.specs.declared.info.TypeInfo.{TypeInfo}
 use Rattle.object_view.proofs.LayoutLaws.{laid_out, SameAt, keeps-same}
 use Rattle.object_model.specs.Layout.{Layout}
 use Rattle.object_model.specs.Sets.{is_in}
-use Rattle.object_model.specs.ObjectWords.{words_at}
-use Rattle.old_space.specs.Calls.{BeginsLive}
 use Rattle.heap_parts.specs.Parts.{HeapParts, word_in, home_in, pinned_places}
 use Rattle.heap_parts.specs.Places.{is_young}
-use Rattle.heap_parts.specs.Births.{with_old_blocks}
 use Rattle.frame_laws.proofs.PlaceLaws.{is_in-young}
 use Rattle.minor_collect.specs.Calls.{Stage, Spot, Middle, Waits, Settled, TookRoom, CanTake, CanSettle, CanRelocate}
 use Rattle.minor_collect.specs.Midway.{is_lasting}

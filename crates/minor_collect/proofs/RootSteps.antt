@@ -1,9 +1,9 @@
 -- All lists that lead to objects are followed.
-use Rattle.std.proofs.Common.{◌≡◌, ℕ, ◌<◌, Bool, false, List, length, refl, sym, ap, ◌∙◌, subst}
+use Rattle.std.proofs.Common.{◌≡◌, ℕ, ◌<◌, length, sym, ap, ◌∙◌, subst}
 use Rattle.heap_parts.specs.Parts.{HeapParts}
 use Rattle.minor_collect.specs.declared.work.Moving.{Moving}
 use Rattle.minor_collect.specs.Midway.{Owes}
-use Rattle.minor_collect.specs.Calls.{Stage, Spot, Standing, FollowedSlots, FollowedForced, CanFollowLists}
+use Rattle.minor_collect.specs.Calls.{Stage, Spot, FollowedSlots, FollowedForced, CanFollowLists}
 use Rattle.minor_collect.specs.Registered.{FollowedEntries, FollowedRoots}
 use Rattle.minor_collect.proofs.GrowLaws.{grows_twice, adds_twice}
 

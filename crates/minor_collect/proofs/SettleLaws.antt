@@ -19,7 +19,7 @@ use Rattle.object_view.proofs.WordLaws.{updated-other}
 use Rattle.object_view.proofs.SpaceLaws.{word_at-written, lies-at}
 use Rattle.object_view.proofs.LayoutLaws.{laid_out, SameAt, KeepsLayout, keeps-same}
 use Rattle.object_view.proofs.CopyLaws.{copy-like}
-use Rattle.object_view.proofs.LeaveLaws.{word_at-moved, after-move, room-moves, not-met}
+use Rattle.object_view.proofs.LeaveLaws.{word_at-moved, after-move, room-moves}
 use Rattle.object_view.proofs.MoveLaws.{moved_to}
 use Rattle.old_space.specs.HasBlocks.{HasBlocks, IsBlock}
 use Rattle.old_space.proofs.JoinLaws.{HasBlocks-apart, HasBlocks-first, HasBlocks-blocks, HasBlocks_permuted}
@@ -40,7 +40,7 @@ use Rattle.heap_parts.proofs.BlockLaws.{each-member, extents-with_run}
 use Rattle.frame_laws.proofs.Members.{each-left, each-right}
 use Rattle.frame_laws.proofs.PlaceLaws.{is_in-young}
 use Rattle.minor_collect.specs.Midway.{Midway, changing_of, is_lasting}
-use Rattle.minor_collect.specs.Calls.{Stage, Spot, Middle, Waits, Settled, settled_word_of, settled_memory, spot_settled, remembered_at, entries_of}
+use Rattle.minor_collect.specs.Calls.{Stage, Spot, Middle, Waits, Settled, settled_word_of, settled_memory, remembered_at, entries_of}
 use Rattle.minor_collect.proofs.Begins.{not-lasting}
 use Rattle.minor_collect.proofs.EndBlocks.{without_home, blocks-taken}
 use Rattle.minor_collect.proofs.MoveBlocks.{no_home}

@@ -1,7 +1,7 @@
 -- Slots are followed, one behind another.
-use Rattle.std.proofs.Common.{◌≡◌, ◌≢◌, ℕ, zero, suc, ◌+◌, ◌<◌, ◌≤◌, ◌⊎◌, Bool, true, false, IsTrue, List, [], ◌∷◌, map, length, Option, Some, None, slice_get, refl, sym, ap, ◌∙◌, subst, inl, inr, arith}
-use Rattle.std.specs.Prelude.{◌||◌, ◌&&◌, ◌==◌, not, filter_map, slice_set, slice_index_or}
-use Rattle.std.proofs.lemmas.Bool.{cases_Bool, ne_eqb, eq-eqb}
+use Rattle.std.proofs.Common.{◌≡◌, ◌≢◌, ℕ, zero, suc, ◌+◌, ◌<◌, ◌≤◌, Bool, true, false, IsTrue, List, [], ◌∷◌, map, length, Option, Some, None, slice_get, refl, sym, ap, ◌∙◌, subst, inl, inr, arith}
+use Rattle.std.specs.Prelude.{◌&&◌, ◌==◌, not, filter_map, slice_set, slice_index_or}
+use Rattle.std.proofs.lemmas.Bool.{ne_eqb}
 use Rattle.std.proofs.lemmas.Bool.Decides.{eqb_tells}
 use Rattle.std.proofs.lemmas.Option.{slice_get-get_or}
 use Rattle.object_model.specs.Sets.{is_in}
@@ -10,7 +10,7 @@ use Rattle.object_model.specs.Holds.{IsPointer}
 use Rattle.object_model.proofs.Members.{is_in-head, is_in-tail, and_both, or_first, in-left}
 use Rattle.store_model.specs.Roots.{roots_of}
 use Rattle.store_model.specs.Reach.{is_root}
-use Rattle.store_model.specs.MinorCollection.{is_unsettled, is_entry, refers_unsettled}
+use Rattle.store_model.specs.MinorCollection.{is_unsettled, refers_unsettled}
 use Rattle.store_model.proofs.Rounds.{LeadsTo-start}
 use Rattle.heap_parts.specs.Parts.{HeapParts, place_in, pinned_places}
 use Rattle.heap_parts.specs.Effects.{with_slot}
@@ -20,8 +20,8 @@ use Rattle.heap_space.specs.Extents.{Extent}
 use Rattle.minor_collect.specs.Carried.{Moved}
 use Rattle.minor_collect.proofs.OpenStep.{midway_follows}
 use Rattle.minor_collect.specs.declared.work.Moving.{Moving}
-use Rattle.minor_collect.specs.Midway.{Midway, Changing, Placing, Owes, FollowsLists, IsLasting, FollowedTo}
-use Rattle.minor_collect.specs.Calls.{Stage, Spot, Middle, MayBeFound, Standing, Grows, Followed, LeadsTo, CanFollow, CanFollowSlot, CanFollowLists, FollowedSlot, FollowedSlots, without_slot, linked_places, is_entry_at}
+use Rattle.minor_collect.specs.Midway.{Midway, Changing, Placing, Owes, IsLasting}
+use Rattle.minor_collect.specs.Calls.{Stage, Spot, MayBeFound, Standing, Followed, CanFollow, CanFollowSlot, CanFollowLists, FollowedSlot, FollowedSlots, without_slot, is_entry_at}
 use Rattle.minor_collect.proofs.FollowLaws.{grows_none, adds_none}
 use Rattle.minor_collect.proofs.GrowLaws.{grows_twice, adds_twice}
 use Rattle.minor_collect.proofs.ListSteps.{midway_lists, slot_holds, slot_followed, set-length}

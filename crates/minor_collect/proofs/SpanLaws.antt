@@ -1,28 +1,26 @@
 -- A span is taken of what is remembered, and the first word of its object tells what is left.
-use Rattle.std.proofs.Common.{◌≡◌, ◌≢◌, ℕ, ◌+◌, ◌%◌, ◌<◌, ◌≤◌, ◌⊎◌, Bool, true, false, IsTrue, List, [], ◌∷◌, ◌++◌, map, Option, Some, None, slice_get, length, refl, sym, ap, ap₂, ◌∙◌, subst, inl, inr, arith}
-use Rattle.std.specs.Prelude.{not, if◌then◌else◌, IsSome, IfSome, IfNone}
-use Rattle.std.proofs.lemmas.Bool.{cases_Bool}
+use Rattle.std.proofs.Common.{◌≡◌, ◌≢◌, ℕ, ◌%◌, Bool, true, false, IsTrue, List, [], ◌∷◌, map, refl, sym, ap, ◌∙◌, subst, arith}
+use Rattle.std.specs.Prelude.{not, IsSome, IfNone}
 use Rattle.heap_space.specs.Memory.{Memory}
-use Rattle.heap_space.specs.Places.{has, word_at, with_word}
-use Rattle.object_header.specs.Words.{IsHeader, has_flag, with_flag, without_flag}
+use Rattle.heap_space.specs.Places.{has, word_at}
+use Rattle.object_header.specs.Words.{IsHeader, has_flag}
 use Rattle.object_header.specs.declared.flags.Flag.{Flag}
 use Rattle.object_header.specs.declared.flags.Flag.TheVariants.{Track, CardsSet}
 use Rattle.object_header.proofs.WordLaws.{has_flag-with_flag_same, has_flag-with_flag_other, has_flag-without_flag_same, has_flag-without_flag_other, type_of-with_flag, type_of-without_flag, IsHeader-with_flag, IsHeader-without_flag}
 use Rattle.object_view.proofs.LayoutLaws.{laid_out}
 use Rattle.object_view.proofs.SpaceLaws.{lies-at}
 use Rattle.object_model.specs.Sets.{is_in}
-use Rattle.object_model.specs.ObjectWords.{words_at}
 use Rattle.remember_cards.specs.declared.Span.{Span}
-use Rattle.remember_cards.specs.Remembered.{Held, Remembered, held_whole, held_places, is_held_whole, has_held_cards, is_held}
+use Rattle.remember_cards.specs.Remembered.{Held, Remembered, held_whole, held_places, is_held_whole, has_held_cards}
 use Rattle.remember_cards.specs.Remembering.{Remembering, remembered_by}
-use Rattle.remember_cards.specs.Tracking.{IsTracked, with_head, flag_is, drained_head}
+use Rattle.remember_cards.specs.Tracking.{with_head, flag_is, drained_head}
 use Rattle.remember_cards.specs.Drained.{HandsOut, next_span, drained}
 use Rattle.heap_parts.specs.Parts.{HeapParts, word_in}
 use Rattle.heap_parts.specs.Places.{old_places}
 use Rattle.heap_parts.specs.Effects.{with_word_at}
 use Rattle.frame_laws.proofs.PlaceLaws.{old-is_in}
 use Rattle.minor_collect.specs.Calls.{Stage, Spot, Middle}
-use Rattle.minor_collect.specs.Spans.{IsSpanned, IsPartOf, with_remember, CanTakeSpans, KeepsMiddle, TakesSpans}
+use Rattle.minor_collect.specs.Spans.{with_remember, CanTakeSpans, KeepsMiddle}
 use Rattle.minor_collect.proofs.MarkMid.{Retells, middle_marks}
 
 flag-same : (word : ℕ) (f : Flag) (b : Bool) → has_flag (flag_is word f b) f ≡ b

@@ -1,29 +1,25 @@
 -- A collection begins: every survivor by itself may be found, and what was remembered is owed.
-use Rattle.std.proofs.Common.{◌≡◌, ◌≢◌, ℕ, zero, suc, ◌+◌, ◌<◌, ◌≤◌, ◌⊎◌, Bool, true, false, IsTrue, List, [], ◌∷◌, map, filter, length, Option, Some, None, slice_get, refl, sym, ap, ◌∙◌, subst, inl, inr, arith}
-use Rattle.std.specs.Prelude.{◌==◌, ◌&&◌, ◌||◌, not, nat_lt, is_some}
-use Rattle.std.specs.List.{list_any, find}
+use Rattle.std.proofs.Common.{◌≡◌, ℕ, zero, suc, ◌+◌, ◌<◌, true, IsTrue, List, [], ◌∷◌, map, length, Some, slice_get, refl, sym, ap, ◌∙◌, subst, inl, inr, arith}
+use Rattle.std.specs.Prelude.{◌==◌, ◌&&◌, nat_lt, is_some}
+use Rattle.std.specs.List.{list_any}
 use Rattle.std.proofs.lemmas.Bool.{cases_Bool}
 use Rattle.std.proofs.lemmas.Bool.Decides.{eqb_tells, nat_tests}
 use Rattle.object_model.specs.Object.{Object, object_at}
 use Rattle.object_model.specs.Fields.{refs_of}
-use Rattle.object_model.specs.ObjectWords.{layout_at, words_at}
+use Rattle.object_model.specs.ObjectWords.{layout_at}
 use Rattle.object_model.specs.Sets.{is_in}
-use Rattle.object_model.proofs.Members.{is_in-head, is_in-tail, is_in-cases, is_in-nil, is_in-named, filter-member, filter-part, and_first, and_second, and_both, or_second}
-use Rattle.store_model.specs.Store.{Store}
+use Rattle.object_model.proofs.Members.{is_in-head, is_in-tail, is_in-nil, is_in-named, filter-member, filter-part, and_first, and_second, and_both, or_second}
 use Rattle.store_model.specs.Roots.{is_kept}
 use Rattle.store_model.specs.Reach.{is_root, is_registered}
-use Rattle.store_model.specs.MarkingOrder.{IsItem}
 use Rattle.store_model.specs.MinorCollection.{is_unsettled, refers_unsettled}
 use Rattle.store_model.proofs.Rounds.{LeadsTo-start}
 use Rattle.remember_cards.specs.Remembered.{Held, Remembered, held_places, is_held, is_held_of, holds_item}
-use Rattle.heap_parts.specs.Parts.{HeapParts, word_in}
+use Rattle.heap_parts.specs.Parts.{word_in}
 use Rattle.heap_parts.specs.Places.{old_places}
 use Rattle.heap_parts.specs.StandsFor.{PartsStandButYoung}
-use Rattle.frame_laws.proofs.PlaceLaws.{old-is_in}
 use Rattle.minor_collect.specs.declared.work.Moving.{Moving}
 use Rattle.minor_collect.specs.Entries.{has_remembered_referrer, referents_where}
-use Rattle.minor_collect.specs.Midway.{FollowsLists}
-use Rattle.minor_collect.specs.Calls.{Stage, Spot, Middle, Standing, MayBeFound, MayLead, is_entry_at, entries_of, owes_at, spot_begins, remembered_at, linked_places}
+use Rattle.minor_collect.specs.Calls.{Stage, Standing, MayLead, is_entry_at, entries_of, owes_at, spot_begins, remembered_at}
 use Rattle.minor_collect.proofs.Begins.{Begins, midway_begins}
 use Rattle.minor_collect.proofs.ListSteps.{linked_there}
 use Rattle.minor_collect.proofs.SameSurvivors.{item-where, any-of}

@@ -12,7 +12,7 @@ use Rattle.heap_parts.specs.Parts.{HeapParts, pinned_places}
 use Rattle.heap_parts.specs.Places.{is_young}
 use Rattle.frame_laws.proofs.PlaceLaws.{is_in-young}
 use Rattle.minor_collect.specs.Midway.{is_lasting, FollowedTo}
-use Rattle.minor_collect.specs.Calls.{Stage, Spot, Middle, FollowsStill}
+use Rattle.minor_collect.specs.Calls.{Stage, Spot, Middle}
 use Rattle.minor_collect.proofs.FollowCases.{followed_stays, followed_left, still_there}
 
 pub is-high : (x : ℕ) → 4294967296 ≤ x → is_young x ≡ false

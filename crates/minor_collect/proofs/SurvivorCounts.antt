@@ -1,21 +1,19 @@
 -- What the code counts is how many survivors settled, with their words, and how many objects vanished.
 use Rattle.std.proofs.Common.{◌≡◌, ℕ, ◌+◌, Bool, true, false, IsTrue, List, [], ◌∷◌, map, filter, length, refl, sym, ap, ◌∙◌, subst, inl, inr, arith}
-use Rattle.std.specs.Prelude.{not, ◌&&◌, ◌||◌, sum_by}
+use Rattle.std.specs.Prelude.{not, ◌&&◌, ◌||◌}
 use Rattle.std.proofs.lemmas.Bool.{cases_Bool}
 use Rattle.std.proofs.lemmas.List.Sums.{sum_by-cons}
-use Rattle.heap_space.specs.Places.{word_at}
 use Rattle.object_model.specs.Object.{Object, kept_words, words_of}
 use Rattle.object_model.specs.Sets.{is_in}
 use Rattle.object_model.proofs.Members.{is_in-head, is_in-tail, filter-member, filter-part}
 use Rattle.store_model.specs.Store.{Store, settled_words}
-use Rattle.store_model.specs.MinorCollection.{settles, vanishes}
+use Rattle.store_model.specs.MinorCollection.{settles}
 use Rattle.store_model.specs.Reach.{births_where, objects_where}
 use Rattle.heap_parts.specs.Parts.{HeapParts}
 use Rattle.heap_parts.specs.Places.{old_places}
 use Rattle.heap_parts.specs.StandsFor.{PartsStandButYoung}
 use Rattle.birth_laws.proofs.BirthNames.{listed}
 use Rattle.frame_laws.proofs.PlaceLaws.{placed_words}
-use Rattle.minor_collect.specs.declared.collection.MinorEnd.{MinorEnd}
 use Rattle.minor_collect.specs.declared.work.Moving.{Moving}
 use Rattle.minor_collect.specs.Calls.{Stage, Spot, Survived}
 use Rattle.minor_collect.specs.Counts.{CountsSurvivors}

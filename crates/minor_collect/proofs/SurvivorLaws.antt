@@ -1,30 +1,27 @@
 -- Where nothing is owed or to be opened, each object that survives by itself is found.
-use Rattle.std.proofs.Common.{◌≡◌, ◌≢◌, ℕ, zero, suc, ◌+◌, ◌<◌, ◌≤◌, ◌⊎◌, Bool, true, false, IsTrue, List, [], ◌∷◌, ◌++◌, map, length, Option, Some, None, slice_get, refl, sym, ap, ◌∙◌, subst, inl, inr, arith}
-use Rattle.std.specs.Prelude.{◌==◌, ◌&&◌, ◌||◌, not, nat_lt, filter_map, flat_map}
+use Rattle.std.proofs.Common.{◌≡◌, ◌≢◌, ℕ, suc, ◌+◌, Bool, true, false, IsTrue, List, [], ◌∷◌, map, Option, Some, None, slice_get, refl, sym, ap, ◌∙◌, subst, inl, inr, arith}
+use Rattle.std.specs.Prelude.{◌&&◌, ◌||◌, not, filter_map, flat_map}
 use Rattle.std.proofs.lemmas.Bool.{cases_Bool}
-use Rattle.std.proofs.lemmas.Bool.Decides.{eqb_tells, nat_tests}
-use Rattle.type_table.specs.Table.{Table}
+use Rattle.std.proofs.lemmas.Bool.Decides.{eqb_tells}
 use Rattle.object_model.specs.Object.{object_at}
 use Rattle.object_model.specs.Fields.{refs_of}
-use Rattle.object_model.specs.Layout.{Layout}
-use Rattle.object_model.specs.ObjectWords.{renamed, layout_at, words_at}
+use Rattle.object_model.specs.ObjectWords.{renamed}
 use Rattle.object_model.specs.Sets.{is_in}
-use Rattle.object_model.proofs.Members.{is_in-head, is_in-tail, is_in-cases, is_in-nil, and_first, and_second, or_cases, in-either, in-left, in-right}
-use Rattle.store_model.specs.Store.{Store}
+use Rattle.object_model.proofs.Members.{is_in-cases, is_in-nil, and_first, and_second, or_cases, in-either, in-left, in-right}
 use Rattle.store_model.specs.Structs.{forced_objects}
 use Rattle.store_model.specs.Roots.{is_kept, roots_of, pinned_births, registered_births}
 use Rattle.store_model.specs.Sound.{waiting_births}
 use Rattle.store_model.specs.Reach.{is_root, is_registered}
 use Rattle.store_model.specs.MarkingOrder.{IsItem}
 use Rattle.store_model.specs.MinorCollection.{is_unsettled}
-use Rattle.heap_parts.specs.Parts.{HeapParts, word_in, pinned_places}
+use Rattle.heap_parts.specs.Parts.{HeapParts, pinned_places}
 use Rattle.heap_parts.specs.Places.{is_young, old_places}
 use Rattle.birth_laws.proofs.BirthNames.{entries-names}
 use Rattle.frame_laws.proofs.PlaceLaws.{old-is_in, named-by}
 use Rattle.minor_collect.specs.declared.work.Moving.{Moving}
 use Rattle.minor_collect.specs.Entries.{has_remembered_referrer, referents_where}
-use Rattle.minor_collect.specs.Midway.{Owes, OwesNone, IsDone, is_lasting}
-use Rattle.minor_collect.specs.Calls.{Stage, Spot, Middle, Standing, Grows, Survived, is_entry_at, entries_of, spot_begins, remembered_at}
+use Rattle.minor_collect.specs.Midway.{OwesNone, IsDone, is_lasting}
+use Rattle.minor_collect.specs.Calls.{Stage, Spot, Standing, Grows, is_entry_at, spot_begins, remembered_at}
 use Rattle.minor_collect.proofs.EndStands.{item-word}
 use Rattle.minor_collect.proofs.Finished.{at-number}
 use Rattle.minor_collect.proofs.ItemSteps.{old_stays}

@@ -1,16 +1,16 @@
 -- Where all that survives moved, nothing is left to look at.
-use Rattle.std.proofs.Common.{◌≡◌, ℕ, ◌⊎◌, Bool, true, false, IsTrue, List, [], filter, map, refl, sym, ap, ◌∙◌, subst, inl, inr}
+use Rattle.std.proofs.Common.{ℕ, IsTrue, List, [], map, subst, inl, inr}
 use Rattle.std.proofs.lemmas.Bool.{cases_Bool}
 use Rattle.object_model.specs.Object.{Object}
 use Rattle.object_model.specs.Sets.{is_in}
 use Rattle.object_model.proofs.Members.{filter-part, is_in-nil}
 use Rattle.heap_space.specs.Places.{word_at}
-use Rattle.store_model.specs.MinorCollection.{is_entry, is_unsettled, refers_unsettled}
+use Rattle.store_model.specs.MinorCollection.{is_unsettled, refers_unsettled}
 use Rattle.heap_parts.specs.Parts.{HeapParts, pinned_places}
 use Rattle.minor_collect.specs.declared.work.Moving.{Moving}
 use Rattle.minor_collect.specs.Traces.{Traces}
 use Rattle.minor_collect.specs.Midway.{Midway, Follows, FollowsLists, changing_of, is_lasting}
-use Rattle.minor_collect.specs.Calls.{Stage, Spot, Middle, Standing, Survived, entries_of, is_entry_at, remembered_at, linked_places}
+use Rattle.minor_collect.specs.Calls.{Stage, Middle, Survived, entries_of, is_entry_at, remembered_at, linked_places}
 
 module _ {stage : Stage} {new : HeapParts} {moving : Moving} (s : Survived stage new moving) where
   left-found : (x : ℕ) → IsTrue (is_in x (entries_of stage)) → IsTrue (is_in x s.after.placing.found)

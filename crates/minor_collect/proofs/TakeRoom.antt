@@ -29,7 +29,7 @@ use Rattle.heap_parts.proofs.BlockLaws.{each-member}
 use Rattle.frame_laws.proofs.PlaceLaws.{is_in-young, is_in-old}
 use Rattle.frame_laws.proofs.TakeLaws.{taken_spare}
 use Rattle.minor_collect.specs.Homes.{KeepsAll}
-use Rattle.minor_collect.specs.Midway.{Midway, changing_of, with_changing}
+use Rattle.minor_collect.specs.Midway.{Midway, changing_of}
 use Rattle.minor_collect.specs.Calls.{Stage, Spot, Middle, TookRoom, remembered_at, entries_of}
 use Rattle.minor_collect.proofs.Sizes.{sizes_stay}
 use Rattle.minor_collect.proofs.TakeKeeps.{keeps_all}

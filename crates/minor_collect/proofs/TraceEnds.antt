@@ -1,6 +1,6 @@
 -- All steps of the trace, joined: what survives and is not pinned moved.
-use Rattle.std.proofs.Common.{◌≡◌, ◌≢◌, ℕ, zero, suc, ◌+◌, ◌<◌, ◌≤◌, ◌⊎◌, Bool, true, false, IsTrue, List, [], ◌∷◌, ◌++◌, map, length, Option, Some, slice_get, refl, sym, ap, ◌∙◌, subst, inl, inr, arith}
-use Rattle.std.specs.Prelude.{◌==◌, ◌&&◌, ◌||◌, not, nat_lt, sum_by}
+use Rattle.std.proofs.Common.{◌≡◌, ℕ, zero, suc, ◌+◌, ◌<◌, false, IsTrue, List, [], ◌∷◌, ◌++◌, length, Some, slice_get, sym, ap, ◌∙◌, subst, inl, inr, arith}
+use Rattle.std.specs.Prelude.{nat_lt}
 use Rattle.std.proofs.lemmas.Bool.{cases_Bool}
 use Rattle.std.proofs.lemmas.Bool.Decides.{nat_tests}
 use Rattle.object_view.proofs.LayoutLaws.{laid_out}
@@ -8,7 +8,6 @@ use Rattle.object_model.specs.ObjectWords.{layout_at, words_at}
 use Rattle.object_model.specs.Sets.{is_in}
 use Rattle.object_model.proofs.Members.{is_in-nil, and_first, and_second}
 use Rattle.remember_cards.specs.declared.Span.{Span}
-use Rattle.remember_cards.specs.Remembered.{held_places, is_held}
 use Rattle.store_model.specs.Store.{Store}
 use Rattle.heap_parts.specs.Parts.{HeapParts, word_in, pinned_places}
 use Rattle.heap_parts.specs.Places.{old_places}
@@ -16,11 +15,11 @@ use Rattle.heap_parts.specs.StandsFor.{PartsStandButYoung}
 use Rattle.frame_laws.proofs.PlaceLaws.{old-is_in, placed_words}
 use Rattle.minor_collect.specs.declared.work.Moving.{Moving}
 use Rattle.minor_collect.specs.Midway.{Owes, OwesNone, FollowsLists}
-use Rattle.minor_collect.specs.Calls.{Stage, Spot, Middle, MayLead, Standing, Grows, AddsTodo, Drained, AreTodo, CanBegin, CanFollowLists, CanDrain, Survived, owes_at, spot_begins, remembered_at, linked_places}
+use Rattle.minor_collect.specs.Calls.{Stage, Spot, MayLead, Standing, Grows, AddsTodo, Drained, AreTodo, CanBegin, CanFollowLists, Survived, owes_at, spot_begins, linked_places}
 use Rattle.minor_collect.specs.Registered.{FollowedRoots}
-use Rattle.minor_collect.specs.Spans.{IsSpanned, TookAll, MaySpan, CanTakeAll, CanDrainSpans, DrainedSpans}
+use Rattle.minor_collect.specs.Spans.{IsSpanned, TookAll, MaySpan, CanTakeAll, DrainedSpans}
 use Rattle.minor_collect.proofs.CountLaws.{sum_member}
-use Rattle.minor_collect.proofs.GrowLaws.{grows_twice, adds_twice}
+use Rattle.minor_collect.proofs.GrowLaws.{grows_twice}
 use Rattle.minor_collect.proofs.ItemSteps.{old_stays}
 use Rattle.minor_collect.proofs.Queued.{no-members}
 use Rattle.minor_collect.proofs.StartLaws.{standing_begins, held_place, held_may}

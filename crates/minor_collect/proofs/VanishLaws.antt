@@ -1,16 +1,16 @@
 -- What is listed as gone is what is gone.
-use Rattle.std.proofs.Common.{◌≡◌, ℕ, false, IsTrue, List, [], ◌++◌, filter, sym, ◌∙◌, subst}
+use Rattle.std.proofs.Common.{◌≡◌, ℕ, false, IsTrue, List, [], filter, sym, subst}
 use Rattle.std.specs.List.Sorted.{IsPermutation, IsNonDecreasing}
 use Rattle.heap_space.specs.Places.{word_at}
 use Rattle.object_view.specs.Views.{HasObject}
 use Rattle.object_model.specs.Sets.{is_in}
 use Rattle.heap_parts.specs.Nursery.{walked}
 use Rattle.heap_parts.specs.Parts.{HeapParts, pinned_places}
-use Rattle.minor_collect.specs.Midway.{with_changing, changing_of, is_lasting}
+use Rattle.minor_collect.specs.Midway.{is_lasting}
 use Rattle.minor_collect.specs.Ending.{DoDiffer}
 use Rattle.minor_collect.specs.Calls.{Stage, Spot, Middle}
 use Rattle.minor_collect.specs.Walks.{AreWalksBy, size_in, is_gone_at, births_destroyed}
-use Rattle.minor_collect.specs.Vanished.{IsMidway, FindsVanished}
+use Rattle.minor_collect.specs.Vanished.{FindsVanished}
 use Rattle.minor_collect.proofs.ListDead.{is_dead_at, dead_once, dead_just, dead_all}
 use Rattle.minor_collect.proofs.WalkLaws.{dead_told}
 

@@ -1,6 +1,6 @@
 -- What is gone is listed range by range.
-use Rattle.std.proofs.Common.{◌≡◌, ℕ, zero, suc, ◌+◌, ◌-◌, ◌<◌, ◌≤◌, IsTrue, List, [], ◌∷◌, ◌++◌, filter, length, refl, sym, ap, ◌∙◌, subst, arith, append-nil}
-use Rattle.std.specs.Prelude.{Option, Some, None, slice_get, take}
+use Rattle.std.proofs.Common.{◌≡◌, ℕ, zero, suc, ◌+◌, ◌-◌, ◌<◌, IsTrue, List, [], ◌∷◌, ◌++◌, filter, length, refl, sym, ap, ◌∙◌, subst, arith, append-nil}
+use Rattle.std.specs.Prelude.{Some, None, slice_get, take}
 use Rattle.std.proofs.lemmas.List.{append_assoc}
 use Rattle.std.proofs.lemmas.List.Elements.{filter-append}
 use Rattle.nursery_gaps.specs.Ranges.{Range}
@@ -8,7 +8,7 @@ use Rattle.object_model.specs.Sets.{is_in}
 use Rattle.object_model.proofs.Members.{in-left, in-right}
 use Rattle.heap_parts.specs.Nursery.{walked}
 use Rattle.heap_parts.specs.Parts.{HeapParts}
-use Rattle.minor_collect.specs.Walks.{CanSize, CanWalk, CanWalkAll, IsWalkBy, AreWalksBy, size_in, is_gone_at}
+use Rattle.minor_collect.specs.Walks.{CanWalk, CanWalkAll, IsWalkBy, AreWalksBy, size_in, is_gone_at}
 
 -- a walk through one range among walks: those before it, and those after it
 pub record WalkAt (size : ℕ → ℕ) (ranges : List Range) (k : ℕ) (range : Range) (walks : List (List ℕ)) : Type 0 where

@@ -1,15 +1,13 @@
 -- In the middle of a collection the nursery can be walked, and what is listed is what is gone.
-use Rattle.std.proofs.Common.{◌≡◌, ◌≢◌, ℕ, zero, suc, ◌+◌, ◌-◌, ◌*◌, ◌<◌, ◌≤◌, Bool, true, false, IsTrue, List, [], ◌∷◌, ◌++◌, filter, length, refl, sym, ap, ◌∙◌, subst, inl, inr, arith}
-use Rattle.std.specs.Prelude.{◌==◌, ◌&&◌, not, if◌then◌else◌, slice_get, Some, nat_lt, ◌^◌}
+use Rattle.std.proofs.Common.{◌≡◌, ◌≢◌, ℕ, zero, suc, ◌+◌, ◌-◌, ◌<◌, ◌≤◌, Bool, true, false, IsTrue, List, [], ◌∷◌, ◌++◌, filter, refl, sym, ap, ◌∙◌, subst, inl, inr, arith}
+use Rattle.std.specs.Prelude.{◌==◌, ◌&&◌, not, if◌then◌else◌, slice_get, Some, nat_lt}
 use Rattle.std.proofs.lemmas.Bool.{cases_Bool}
 use Rattle.std.proofs.lemmas.Bool.Decides.{eqb_tells, nat_tests}
 use Rattle.type_table.specs.declared.info.TypeInfo.{TypeInfo}
 use Rattle.type_table.specs.Table.{Table}
-use Rattle.heap_space.specs.Places.{has, word_at}
+use Rattle.heap_space.specs.Places.{word_at}
 use Rattle.nursery_gaps.specs.Ranges.{Range, AreRising, words_between}
 use Rattle.nursery_gaps.specs.Nursery.{Layout as NurseryLayout, IsLaidOut}
-use Rattle.object_header.specs.Words.{has_flag}
-use Rattle.object_header.specs.declared.flags.Flag.TheVariants.{Pinned}
 use Rattle.object_view.specs.Views.{HasObject}
 use Rattle.object_view.proofs.ForwardLaws.{header-unmarked}
 use Rattle.object_model.specs.Sets.{is_in}
@@ -17,12 +15,11 @@ use Rattle.object_model.specs.ObjectWords.{words_at}
 use Rattle.object_model.proofs.Members.{filter-agree, is_in-head, is_in-tail, in-left, in-right}
 use Rattle.heap_parts.specs.Nursery.{AreWalks, IsWalk, walked}
 use Rattle.heap_parts.specs.Parts.{HeapParts, word_in, pinned_places}
-use Rattle.heap_parts.specs.Places.{is_young}
 use Rattle.frame_laws.proofs.PlaceLaws.{is_in-young}
 use Rattle.minor_collect.specs.Carried.{HoldsWalked}
 use Rattle.minor_collect.specs.Midway.{with_changing, changing_of}
 use Rattle.minor_collect.specs.Calls.{Stage, Spot, Middle}
-use Rattle.minor_collect.specs.Walks.{CanSize, CanWalkAll, IsWalkBy, AreWalksBy, size_in, stands_at, is_gone_at}
+use Rattle.minor_collect.specs.Walks.{CanSize, CanWalkAll, IsWalkBy, AreWalksBy, size_in, is_gone_at}
 use Rattle.minor_collect.proofs.FollowCases.{still_there}
 use Rattle.minor_collect.proofs.ListDead.{is_dead_at}
 use Rattle.minor_collect.proofs.StillLaws.{can_read}

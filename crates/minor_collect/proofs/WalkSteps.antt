@@ -1,15 +1,13 @@
 -- What is gone is listed by a walk.
-use Rattle.std.proofs.Common.{◌≡◌, ◌≢◌, ℕ, ◌+◌, ◌-◌, ◌<◌, ◌≤◌, ◌⊎◌, Bool, true, false, IsTrue, List, [], ◌∷◌, ◌++◌, filter, refl, sym, ap, ◌∙◌, subst, inl, inr, arith, append-nil}
-use Rattle.std.specs.Prelude.{◌==◌, ◌&&◌, not, if◌then◌else◌}
-use Rattle.std.proofs.lemmas.Bool.{cases_Bool}
+use Rattle.std.proofs.Common.{◌≡◌, ℕ, ◌+◌, ◌-◌, ◌<◌, ◌≤◌, Bool, true, false, IsTrue, List, [], ◌∷◌, ◌++◌, filter, refl, sym, ap, ◌∙◌, subst, arith, append-nil}
+use Rattle.std.specs.Prelude.{◌==◌, if◌then◌else◌}
 use Rattle.std.proofs.lemmas.List.{append_assoc}
 use Rattle.std.proofs.lemmas.List.Elements.{filter-append}
 use Rattle.object_view.proofs.LayoutLaws.{laid_out}
 use Rattle.object_model.specs.Sets.{is_in}
 use Rattle.object_model.specs.ObjectWords.{words_at}
-use Rattle.object_model.proofs.Members.{is_in-head, in-left, in-right}
+use Rattle.object_model.proofs.Members.{is_in-head, in-right}
 use Rattle.heap_parts.specs.Parts.{HeapParts, word_in}
-use Rattle.minor_collect.specs.Sizes.{size_now}
 use Rattle.minor_collect.specs.Walks.{CanSize, CanWalk, IsWalkBy, size_in, stands_at, is_gone_at}
 
 pub size_stands : (heap : HeapParts) (p n : ℕ) → n ≡ words_at heap.setup.types (word_in heap) (stands_at heap p) → n ≡ size_in heap p

@@ -1,25 +1,24 @@
 -- A word of an object outside the nursery is written in the middle of a collection: what stays.
-use Rattle.std.proofs.Common.{◌≡◌, ◌≢◌, ℕ, ◌+◌, ◌<◌, ◌≤◌, ◌⊎◌, Bool, true, false, IsTrue, List, [], ◌∷◌, ◌++◌, map, refl, sym, ap, ◌∙◌, subst, inl, inr, arith}
+use Rattle.std.proofs.Common.{◌≡◌, ◌≢◌, ℕ, ◌+◌, ◌<◌, ◌≤◌, ◌⊎◌, IsTrue, List, [], ◌++◌, map, refl, sym, ap, ◌∙◌, subst, inl, inr, arith}
 use Rattle.std.specs.Prelude.{IsSome}
 use Rattle.std.specs.List.{filter}
 use Rattle.type_table.specs.declared.info.TypeInfo.{TypeInfo}
 use Rattle.type_table.specs.Table.{Table, value_at}
-use Rattle.heap_space.specs.Places.{has, word_at, with_word, lies_in_one}
+use Rattle.heap_space.specs.Places.{word_at, with_word, lies_in_one}
 use Rattle.heap_space.specs.Memory.{Memory}
 use Rattle.heap_space.specs.Extents.{Extent, Each, IsApart, IsOutside, IsUntouched, begins_between}
 use Rattle.heap_space.proofs.ExtentLaws.{extents-with_word}
 use Rattle.heap_space.proofs.Blocks.{lies-with_word}
 use Rattle.object_view.proofs.WordLaws.{updated-other}
 use Rattle.object_view.proofs.SpaceLaws.{word_at-written, lies-at}
-use Rattle.object_view.proofs.LayoutLaws.{laid_out, SameAt, KeepsLayout, keeps-same}
-use Rattle.object_view.specs.Views.{HasObject}
+use Rattle.object_view.proofs.LayoutLaws.{SameAt, KeepsLayout}
 use Rattle.object_model.specs.Layout.{Layout}
 use Rattle.object_model.specs.Sets.{is_in}
 use Rattle.object_model.specs.ObjectWords.{updated, words_at}
 use Rattle.old_space.specs.HasBlocks.{HasBlocks, IsBlock}
 use Rattle.old_space.proofs.JoinLaws.{HasBlocks-apart, HasBlocks-blocks, HasBlocks_untouched}
 use Rattle.heap_parts.specs.Parts.{HeapParts, word_in, home_in}
-use Rattle.heap_parts.specs.Places.{is_young, young_places, old_places, block_at, AreWhole}
+use Rattle.heap_parts.specs.Places.{young_places, old_places, block_at, AreWhole}
 use Rattle.heap_parts.specs.OldSpace.{blocks_of, reserved_blocks, reserved_homes}
 use Rattle.heap_parts.specs.Effects.{with_word_at}
 use Rattle.heap_parts.proofs.BlockLaws.{each-member}

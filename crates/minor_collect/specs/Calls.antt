@@ -15,9 +15,9 @@ use Rattle.store_model.specs.Store.{Store}
 use Rattle.store_model.specs.Structs.{Structs, object_of, with_objects, forced_objects}
 use Rattle.store_model.specs.MarkingOrder.{IsItem}
 use Rattle.store_model.specs.Roots.{pinned_births}
-use Rattle.store_model.specs.MinorCollection.{is_unsettled, is_entry, refers_unsettled, SurvivesBy}
+use Rattle.store_model.specs.MinorCollection.{is_unsettled, is_entry, SurvivesBy}
 use Rattle.remember_cards.specs.Remembered.{is_held_of, is_held_whole}
-use Rattle.heap_parts.specs.Parts.{HeapParts, word_in, home_in, pinned_places}
+use Rattle.heap_parts.specs.Parts.{HeapParts, word_in, pinned_places}
 use Rattle.heap_parts.specs.Places.{is_young, old_places}
 use Rattle.heap_parts.specs.StandsFor.{PartsStandButYoung}
 use Rattle.heap_parts.specs.Births.{with_old_blocks, old_header}
@@ -25,7 +25,7 @@ use Rattle.heap_parts.specs.Headers.{keeps_cards}
 use Rattle.minor_collect.specs.declared.work.Moving.{Moving}
 use Rattle.minor_collect.specs.Carried.{Moved, none_moved, one_moved}
 use Rattle.minor_collect.specs.Entries.{has_remembered_referrer}
-use Rattle.minor_collect.specs.Midway.{Midway, changing_of, with_changing, Owes, OwesNone, Placing, one_settled, is_lasting, IsLasting, IsDone, FollowsLists, FollowedTo}
+use Rattle.minor_collect.specs.Midway.{Midway, changing_of, with_changing, Owes, OwesNone, Placing, one_settled, is_lasting, IsDone, FollowsLists, FollowedTo}
 use Rattle.minor_collect.specs.Sizes.{TellSizes}
 
 -- the parts with which a collection began, and a store that they stood for

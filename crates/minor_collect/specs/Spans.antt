@@ -1,11 +1,11 @@
 -- Spans that were taken of what is remembered, and what they cover.
-use Rattle.std.specs.Prelude.{◌≡◌, ℕ, ◌+◌, ◌<◌, ◌≤◌, ◌⊎◌, ◌==◌, ◌&&◌, not, Bool, false, nat_le, nat_lt, IsTrue, List, [], slice_get, Some}
+use Rattle.std.specs.Prelude.{◌≡◌, ℕ, ◌<◌, ◌≤◌, ◌⊎◌, ◌==◌, ◌&&◌, not, false, nat_le, nat_lt, IsTrue, List, [], slice_get, Some}
 use Rattle.heap_space.specs.Memory.{Memory}
 use Rattle.object_model.specs.Sets.{is_in}
 use Rattle.remember_cards.specs.declared.Span.{Span}
 use Rattle.remember_cards.specs.Remembered.{is_held, held_places}
 use Rattle.remember_cards.specs.Remembering.{Remembering, remembered_by}
-use Rattle.heap_parts.specs.Parts.{HeapParts, word_in}
+use Rattle.heap_parts.specs.Parts.{HeapParts}
 use Rattle.heap_parts.specs.Places.{old_places}
 use Rattle.minor_collect.specs.declared.work.Moving.{Moving}
 use Rattle.minor_collect.specs.Midway.{Owes}

@@ -6,6 +6,7 @@ ghost use Rattle.std.specs.List.Sorted.{IsPermutation, IsNonDecreasing};
 ghost use Rattle.object_header.specs.Words.{has_flag};
 ghost use Rattle.object_header.specs.declared.flags.Flag.TheVariants.{Visited};
 ghost use Rattle.object_view.specs.Views.{HasView, HasObject};
+ghost use Rattle.object_model.specs.ObjectWords.{info_at};
 ghost use Rattle.heap_parts.specs.Nursery.{walked};
 ghost use Rattle.heap_parts.specs.Parts.{word_in, pinned_places};
 ghost use Rattle.heap_parts.specs.Places.{young_places, block_at};
@@ -18,10 +19,11 @@ use crate::items::{item, view_of};
 use crate::moves::{MOVED, is_young, size_of};
 use crate::spans::is_visited;
 use heap_parts::Parts;
-use object_header::{Flag, is_set};
+use object_header::{Flag, is_set, type_id};
 use object_view::{ObjView, view};
 use remember_cards::Span;
 use std::alloc::AllocError;
+use type_table::TypeInfo;
 
 /// Queues for marking what the items of these spans refer to, span by span. What counts is as `queue_span` says. The error is out
 /// of memory.
@@ -184,11 +186,31 @@ fn list_birth(parts: &Parts, p: u64, destroyed: &mut Vec<u64>) -> Result<(), All
     requires { HasObject parts.now.memory parts.now.setup.types p }
     ensures { OnOk result (destroyed.new.items ≡ destroyed.old.items ++ births_destroyed parts.now (p ∷ [])) }
 {
-    let v = view(&parts.space, &parts.types, p);
-    if parts.types.get(v.type_id).unwrap().destructor {
-        destroyed.push(v.birth)?;
+    if info_there(parts, p).destructor {
+        destroyed.push(birth_there(parts, p))?;
     }
     Ok(())
+}
+
+/// The descriptor of the type of the object at a place.
+fn info_there(parts: &Parts, p: u64) -> TypeInfo
+    requires { HasObject parts.now.memory parts.now.setup.types p }
+    ensures { result ≡ info_at parts.now.setup.types (word_in parts.now) p }
+{
+    // The places of a space are below 2^63.
+    let _ordered = parts.space.arena_words();
+    let word = parts.space.read(p);
+    parts.types.get(type_id(word)).unwrap()
+}
+
+/// The birth of the object at a place.
+fn birth_there(parts: &Parts, p: u64) -> u64
+    requires { HasObject parts.now.memory parts.now.setup.types p }
+    ensures { result ≡ word_in parts.now (p + 1) }
+{
+    // The places of a space are below 2^63.
+    let _ordered = parts.space.arena_words();
+    parts.space.read(p + 1)
 }
 
 /// Gives back the homes that were reserved for these objects.

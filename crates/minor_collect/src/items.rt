@@ -26,6 +26,24 @@ pub(crate) fn follow_items(
         → OnOk result (FollowedItems stage parts.old parts.new moving.old moving.new spot p from to) }
 {
     let v = view_of(parts, p);
+    follow_seen(parts, moving, v, p, from, to)
+}
+
+/// The same of an object whose view is `v`.
+fn follow_seen(
+    parts: &mut Parts,
+    moving: &mut Moving,
+    v: ObjView,
+    p: u64,
+    from: u64,
+    to: u64,
+) -> Result<(), AllocError>
+    requires follow { CanFollowItems parts.old moving.old p from to }
+    requires value { v ≡ view_at parts.old.setup.types (word_in parts.old) p }
+    requires whole { HasView parts.old.memory v p }
+    ensures { (stage : Stage) (spot : Spot) → Standing stage parts.old moving.old spot → IsTrue (is_in p (old_places spot.placing.places)) → ((i : ℕ) → from ≤ i → i < to → MayLead stage (spot.placing.name p) i)
+        → OnOk result (FollowedItems stage parts.old parts.new moving.old moving.new spot p from to) }
+{
     for i in from..to.min(v.ref_count) {
         follow_item(parts, moving, v, p, i)?;
     }
@@ -85,8 +103,8 @@ fn open_object(parts: &mut Parts, moving: &mut Moving, p: u64) -> Result<(), All
     requires { CanOpen parts.old moving.old p }
     ensures { (stage : Stage) (spot : Spot) → Standing stage parts.old moving.old spot → IsTrue (is_in p spot.todo) → OnOk result (FollowedItems stage parts.old parts.new moving.old moving.new spot p 0 (ref_count_at stage parts.old p)) }
 {
-    let count = view_of(parts, p).ref_count;
-    follow_items(parts, moving, p, 0, count)
+    let v = view_of(parts, p);
+    follow_seen(parts, moving, v, p, 0, v.ref_count)
 }
 
 /// Follows the references of all objects that moved, and of those that move by that.

@@ -1,5 +1,5 @@
 -- A hash table from numbers to numbers as a finite map.
-use Rattle.std.proofs.Common.{◌≡◌, ℕ, cond, nat_eq, List, [], ◌∷◌, ◌++◌, Option, Some, None, refl, sym, ap, ◌∙◌, arith, option_to_list, IfSome}
+use Rattle.std.proofs.Common.{◌≡◌, ℕ, Bool, true, false, cond, nat_eq, List, [], ◌∷◌, ◌++◌, length, Option, Some, None, refl, sym, ap, ◌∙◌, subst, arith, option_to_list, IfSome}
 use Rattle.std.proofs.lemmas.Bool.{eq-eqb}
 use Rattle.std.proofs.lemmas.Bool.Decides.{nat_tests}
 use Rattle.std.specs.Ordering.{nat_cmp, eq_by_cmp}
@@ -7,7 +7,7 @@ use Rattle.std.specs.Cmp.{nat_cmp_total}
 use Rattle.std.specs.FinMap as map
 use Rattle.std.specs.FinMap.{FinMap, find, nat_cmp-IsAntisymmetric, get-from_entries, get-insert, get-remove, same_map, from_entries_push}
 use Rattle.std.specs.Map.{lookup}
-use Rattle.indexmap.specs.IndexMap.{IndexMap, get, Updates}
+use Rattle.indexmap.specs.IndexMap.{IndexMap, get, Updates, index_map_len}
 
 -- what a contract sees of a table
 abbrev pub seen : {S : Type 0} → IndexMap ℕ ℕ S → FinMap nat_cmp ℕ
@@ -66,6 +66,27 @@ pub popped-removed : {S : Type 0} (old new : IndexMap ℕ ℕ S) (popped : Optio
     → IfSome popped (λ pair. seen new ≡ map.remove (seen old) pair.0)
 popped-removed old new None updates = tt
 popped-removed old new (Some pair) updates = seen-remove old new pair.0 updates
+
+no-entries : {A : Type 0} (entries : List A) → length entries ≡ 0 → entries ≡ []
+no-entries [] none = refl
+no-entries (entry ∷ entries) none = absurd (omega (arith, none))
+
+-- nothing is found in a table without entries
+pub no-home : {S : Type 0} (table : IndexMap ℕ ℕ S) (now : FinMap nat_cmp ℕ) (key : ℕ) → seen table ≡ now → index_map_len table ≡ 0 → None ≡ map.get now key
+no-home table now key view none =
+    sym (ap (λ homes. map.get homes key) (sym view) ∙ get-seen table key ∙ ap (lookup (nat_eq key)) (no-entries table.entries none))
+
+none-either : (test : Bool) → let none : Option ℕ = None in cond test none none ≡ none
+none-either true = refl
+none-either false = refl
+
+-- nothing is taken off it
+pub none-removed : {S : Type 0} (table : IndexMap ℕ ℕ S) (now : FinMap nat_cmp ℕ) (key : ℕ) → seen table ≡ now → index_map_len table ≡ 0 → now ≡ map.remove now key
+none-removed table now key view none =
+    subst (λ (homes : FinMap nat_cmp ℕ). homes ≡ map.remove homes key) view
+    (same_map nat_cmp_total nat_cmp-IsAntisymmetric (seen table) (map.remove (seen table) key)
+    (λ at. let absent : map.get (seen table) at ≡ None = sym (no-home table (seen table) at refl none) in
+    absent ∙ sym (get-remove nat_cmp_total (seen table) key at ∙ ap (cond (eq_by_cmp nat_cmp at key) None) absent ∙ none-either (eq_by_cmp nat_cmp at key))))
 
 -- what the steps of a table are to a map, for its methods
 pub ruleset map_steps = (get-seen, seen-insert, seen-remove, popped-removed)

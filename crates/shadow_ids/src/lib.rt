@@ -60,6 +60,10 @@ impl Shadows {
     pub fn home(&self, a: u64) -> Option<u64>
         ensures { result ≡ map.get self.now a }
     {
+        // Where no home is reserved, no hash is made.
+        if self.homes.is_empty() {
+            return None;
+        }
         self.homes.get(&a).copied()
     }
 
@@ -71,6 +75,9 @@ impl Shadows {
         ensures taken { self.new ≡ map.remove self.old a }
         ensures unchanged { IfNone result (self.new ≡ self.old) }
     {
+        if self.homes.is_empty() {
+            return None;
+        }
         self.homes.swap_remove(&a)
     }
 

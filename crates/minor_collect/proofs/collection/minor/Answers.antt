@@ -1,4 +1,4 @@
-use Rattle.std.proofs.Common.{◌≡◌, ◌+◌, ◌<◌, ◌^◌, ℕ, List, length, ap, sym, ◌∙◌, subst}
+use Rattle.std.proofs.Common.{◌+◌, ◌<◌, ◌^◌, ℕ, List, length, sym, ◌∙◌, subst}
 use Rattle.object_model.specs.Sets.{is_in}
 use Rattle.store_model.specs.Links.{link_ends}
 use Rattle.minor_collect.specs.declared.work.Moving.{Moving}

@@ -1,21 +1,5 @@
-use Rattle.std.proofs.Common.{rules}
-use Rattle.minor_collect.proofs.ItemsLaws.{items_object, items_begin, item_can, items_next, items_end}
+use Rattle.minor_collect.proofs.ItemsLaws.{items_object}
 use Rattle.minor_collect.proofs.items.follow_items.Goals as goal
 
 pub view_of-v-requires : goal.view_of-v-requires
 view_of-v-requires c = items_object c.args.parts.now c.args.moving.now c.args.p c.args.from c.args.to c.requires
-
-pub loop-i-init : goal.loop-i-init
-loop-i-init c = items_begin c.args.parts.now c.args.moving.now c.view_of-v.result c.args.p c.args.from c.args.to c.view_of-v.ensures.whole
-
-pub follow_item-requires-clause-follow : goal.follow_item-requires-clause-follow
-follow_item-requires-clause-follow c = item_can c.requires c.view_of-v.ensures.value c.loop-i.invariant
-    (search (rules, c.loop-i.auto.i)) (search (rules, c.loop-i-test.true, c.min-i-end.ensures)) (search (rules, c.loop-i-test.true, c.min-i-end.ensures))
-
-pub loop-i-preserved : goal.loop-i-preserved
-loop-i-preserved c = items_next c.requires c.view_of-v.ensures.value c.loop-i.invariant
-    (search (rules, c.loop-i.auto.i)) (search (rules, c.loop-i-test.true, c.min-i-end.ensures)) (search (rules, c.loop-i-test.true, c.min-i-end.ensures)) c.in_ok-follow_item.ensures
-
-pub returns : goal.returns
-returns c = λ stage spot standing there may.
-    items_end c.view_of-v.ensures.value c.loop-i.invariant (λ i high less. search (rules, c.loop-i-test.false, c.min-i-end.ensures, high, less)) stage spot (record { standing = standing; there = there; may = may })
