@@ -1,5 +1,5 @@
--- The summary behind a generated script, and what stands when it was written.
-use Rattle.std.proofs.Common.{◌≡◌, ℕ, ◌∷◌, true, List, [], ◌++◌, Option, Some, None, refl, sym, ap, ◌∙◌, subst, Err}
+-- The summary behind a generated script.
+use Rattle.std.proofs.Common.{◌≡◌, ℕ, ◌∷◌, true, List, [], ◌++◌, Option, Some, None, refl, sym, ap, ◌∙◌, subst}
 use Rattle.std.specs.Prelude.{is_none}
 use Rattle.type_table.specs.declared.info.TypeInfo.{TypeInfo}
 use Rattle.type_table.specs.Table.{Table}
@@ -23,10 +23,7 @@ use Rattle.session_core.specs.Seen.{SessionSeen}
 use Rattle.session_core.specs.Standing.{HasHeap, HasStore}
 use Rattle.session_core.proofs.Places.{heap_stands}
 use Rattle.replay_bench.specs.declared.tally.Tally.{Tally}
-use Rattle.replay_bench.specs.declared.top.BenchEnd.{BenchEnd}
-use Rattle.replay_bench.specs.declared.top.BenchEnd.TheVariants.{Malformed, HeapLimit, OutOfMemory, WriteFault}
-use Rattle.std.proofs.KnownBytes.{Keeps-refl}
-use Rattle.replay_bench.specs.Bench.{Summarizes, HasNoSummary, EndsBench}
+use Rattle.replay_bench.specs.Bench.{Summarizes}
 use Rattle.replay_bench.specs.Items.{CountsItems}
 use Rattle.replay_bench.specs.Summary.{tally_of, tally_text}
 use Rattle.replay_bench.proofs.RunLaws.{items_in_front, generated_end, late_behind}
@@ -92,11 +89,3 @@ summarizes items tally session heap line empty text all p none is =
           ∙ ap (λ (l : Line). tally_text (tally_of all.groups) ++ line_text l) (used_line heap heap all.at.store line stands.store p)));
       stands = stands;
     }
-
--- where there is no summary nothing was written
-pub ends_unwritten : (items : List Item) (before : Option (List ℕ)) (heap : HeapSeen) (end : BenchEnd) → HasNoSummary items heap end
-    → EndsBench items before before heap (Err end)
-ends_unwritten items before heap (Malformed k reason) none = absurd none
-ends_unwritten items before heap (HeapLimit k counted request limit) none = absurd none
-ends_unwritten items before heap OutOfMemory none = Keeps-refl before
-ends_unwritten items before heap WriteFault none = absurd none

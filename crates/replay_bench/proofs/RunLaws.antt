@@ -1,12 +1,11 @@
 -- Runs of items: one more, and what stands behind a command.
-use Rattle.std.proofs.Common.{◌≡◌, ℕ, ◌+◌, zero, suc, true, List, [], ◌∷◌, ◌++◌, length, map, None, refl, sym, ap, ◌∙◌, subst, append_assoc, append-nil, length-append}
-use Rattle.std.proofs.lemmas.List.{length-map}
+use Rattle.std.proofs.Common.{◌≡◌, ℕ, true, List, [], ◌∷◌, ◌++◌, map, None, refl, sym, ap, ◌∙◌, subst, append_assoc, append-nil}
 use Rattle.std.proofs.lemmas.List.{map-append}
 use Rattle.text_model.specs.declared.command.Command.{Command}
 use Rattle.text_model.specs.declared.command.Command.TheVariants.{Collect}
 use Rattle.text_model.specs.declared.item.Item.{Item}
 use Rattle.text_model.specs.declared.item.Item.TheVariants.{Command as CommandItem}
-use Rattle.text_model.specs.Generated.{generated_header, filling_commands, drawn_commands, generated_items, next_drawn}
+use Rattle.text_model.specs.Generated.{generated_header, filling_commands, drawn_commands, generated_items}
 use Rattle.store_model.specs.Progress.{Progress}
 use Rattle.store_model.specs.Refusal.{refusal}
 use Rattle.store_model.specs.Transcript.{Group, ItemDoes, Runs}
@@ -52,19 +51,3 @@ generated_end start n =
     ap (λ (commands : List Command). generated_header ++ map CommandItem commands) (sym (append_assoc filling_commands (drawn_commands start n) (Collect ∷ [])))
     ∙ ap (λ (items : List Item). generated_header ++ items) (map-append CommandItem (filling_commands ++ drawn_commands start n) (Collect ∷ []))
     ∙ sym (append_assoc generated_header (map CommandItem (filling_commands ++ drawn_commands start n)) (CommandItem Collect ∷ []))
-
-length_drawn : (x n : ℕ) → length (drawn_commands x n) ≡ n
-length_drawn x zero = refl
-length_drawn x (suc n) = ap suc (length_drawn (next_drawn x) n)
-
-length_parts : (header : List Item) (filling drawn : List Command) (a b c : ℕ) → length header ≡ a → length filling ≡ b → length drawn ≡ c
-    → length (header ++ map CommandItem (filling ++ (drawn ++ Collect ∷ []))) ≡ a + (b + (c + 1))
-length_parts header filling drawn a b c is_a is_b is_c =
-    let behind : List Command = drawn ++ Collect ∷ [] in
-    length-append header (map CommandItem (filling ++ behind))
-    ∙ ap (λ k. length header + k) (length-map (filling ++ behind) CommandItem ∙ length-append filling behind
-    ∙ ap (λ k. length filling + k) (length-append drawn (Collect ∷ [])))
-    ∙ rw (is_a, is_b, is_c) refl
-
-pub length_generated : (start n : ℕ) → length (generated_items start n) ≡ 5 + (15 + (n + 1))
-length_generated start n = length_parts generated_header filling_commands (drawn_commands start n) 5 15 n refl refl (length_drawn start n)

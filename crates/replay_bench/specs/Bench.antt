@@ -7,7 +7,7 @@ use Rattle.store_model.specs.Transcript.{Group, Runs}
 use Rattle.heap_core.specs.Heap.{HeapSeen}
 use Rattle.session_core.specs.Standing.{HeapStandsAt}
 use Rattle.replay_bench.specs.declared.top.BenchEnd.{BenchEnd}
-use Rattle.replay_bench.specs.declared.top.BenchEnd.TheVariants.{Malformed, HeapLimit, OutOfMemory, WriteFault}
+use Rattle.replay_bench.specs.declared.top.BenchEnd.TheVariants.{OutOfMemory, WriteFault}
 use Rattle.replay_bench.specs.Summary.{summary_text}
 use Rattle.script_convert.specs.Written.{WritesPart}
 
@@ -19,17 +19,8 @@ pub record Summarizes (items : List Item) (heap : HeapSeen) (Says : List ℕ →
   pub says : Says (summary_text groups after.store)
   pub stands : HeapStandsAt heap after
 
--- why there is no summary of these items: none of them is refused, and the limit refuses none
-abbrev pub HasNoSummary : List Item → HeapSeen → BenchEnd → Type 0
-HasNoSummary items heap (Malformed k reason) = ⊥
-HasNoSummary items heap (HeapLimit k counted request limit) = ⊥
-HasNoSummary items heap OutOfMemory = Unit {0}
-HasNoSummary items heap WriteFault = ⊥
-
--- What stands by the answer: the summary was written, or at a write fault a part of it, and else nothing. There is no other answer.
+-- What stands by the answer: the summary was written, or at a write fault a part of it, and else nothing.
 abbrev pub EndsBench : List Item → Option (List ℕ) → Option (List ℕ) → HeapSeen → Result (Unit {0}) BenchEnd → Type 0
 EndsBench items before written heap (Ok done) = Summarizes items heap (Appends before written)
-EndsBench items before written heap (Err (Malformed k reason)) = ⊥
-EndsBench items before written heap (Err (HeapLimit k counted request limit)) = ⊥
 EndsBench items before written heap (Err OutOfMemory) = Keeps before written
 EndsBench items before written heap (Err WriteFault) = Summarizes items heap (WritesPart before written)

@@ -1,9 +1,9 @@
 //! The summary of a generated script.
-ghost use Rattle.std.specs.Prelude.{◌≡◌, ◌≤◌, IfOk, IfErr, IsErrOf};
+ghost use Rattle.std.specs.Prelude.{◌≡◌, ◌≤◌, IfOk, IsErrOf};
 ghost use Rattle.heap_io.specs.Causes.{Rose};
 ghost use Rattle.text_model.specs.Generated.{generated_items};
 ghost use Rattle.heap_core.specs.Heap.{closed_heap};
-ghost use Rattle.replay_bench.specs.Bench.{EndsBench, Summarizes, HasNoSummary};
+ghost use Rattle.replay_bench.specs.Bench.{EndsBench, Summarizes};
 
 use crate::items::do_items;
 use crate::summary::print_summary;
@@ -12,27 +12,11 @@ use heap_io::{Failed, Sink};
 use script_convert::write_all;
 use session_core::Session;
 use std::alloc::{AllocError, Global};
-use store_model::{Line, Reason};
+use store_model::Line;
 
-/// Why no summary was written of a generated script. Its items have a line each, and `line` counts these from 1. The first two are
-/// what a session may answer to an item; no item of a generated script gets them.
+/// Why no summary was written of a generated script. No item of one is refused, and the limit refuses no birth.
 #[derive(Clone, Copy, Debug, PartialEq, Eq)]
 pub enum BenchEnd {
-    /// The line is refused for this reason.
-    Malformed {
-        line: u64,
-        reason: Reason,
-    },
-    /// The birth of the line does not fit under the limit, even after a whole collection.
-    HeapLimit {
-        line: u64,
-        /// The words of all objects and husks.
-        counted: u64,
-        /// The words of the object that was to be born.
-        request: u64,
-        /// The setting.
-        limit: u64,
-    },
     OutOfMemory,
     /// A call of the sink failed.
     WriteFault,
@@ -52,8 +36,7 @@ impl From<AllocError> for BenchEnd {
 /// writes the summary of their transcript, which itself is not written: the lines `commands N`, `lines N`, `births N`, `minors N`,
 /// `cycles N` and `used K H`. (Scripts and summary are this project's own.)
 ///
-/// No item of a generated script is refused, and the limit refuses no birth of it: `Malformed` and `HeapLimit` never come. At
-/// `OutOfMemory` nothing is said of the heap, and nothing is written. At `WriteFault` all items are done, and of the summary not
+/// At `OutOfMemory` nothing is said of the heap, and nothing is written. At `WriteFault` all items are done, and of the summary not
 /// all was written.
 pub fn bench<K: Sink>(
     alloc: Global,
@@ -68,28 +51,24 @@ pub fn bench<K: Sink>(
     ensures later { K.faults out.old ≤ K.faults out.new }
     ensures fault { IsErrOf result BenchEnd.WriteFault → Rose (K.faults out.old) (K.faults out.new) }
 {
-    let text = match summary_of(alloc, start, count, heap) {
-        Ok(text) => text,
-        Err(end) => return Err(end),
-    };
+    let text = summary_of(alloc, start, count, heap)?;
     match write_all(out, &text) {
         Ok(()) => Ok(()),
         Err(Failed) => Err(BenchEnd::WriteFault),
     }
 }
 
-/// Does the generated script, and answers the text of its summary.
-fn summary_of(alloc: Global, start: u64, count: u32, heap: &mut Heap) -> Result<Vec<u8>, BenchEnd>
+/// Does the generated script, and answers the text of its summary. The error is out of memory.
+fn summary_of(alloc: Global, start: u64, count: u32, heap: &mut Heap) -> Result<Vec<u8>, AllocError>
     requires few { count ≤ 100000 }
     requires closed { heap.old ≡ closed_heap }
-    ensures ok { IfOk result (λ text. Summarizes (generated_items start count) heap.new (λ summary. text.items ≡ summary)) }
-    ensures err { IfErr result (HasNoSummary (generated_items start count) heap.new) }
+    ensures { IfOk result (λ text. Summarizes (generated_items start count) heap.new (λ summary. text.items ≡ summary)) }
 {
     let mut session = Session::new(alloc)?;
     let tally = do_items(alloc, start, count, &mut session, heap)?;
     let mut text = Vec::new(alloc);
     let Ok((kept, husks)) = heap.used() else {
-        return Err(BenchEnd::OutOfMemory);
+        return Err(AllocError);
     };
     print_summary(tally, &Line::UsedIs { kept, husks }, &mut text)?;
     Ok(text)

@@ -29,8 +29,6 @@ stop_of_convert convert.OutOfMemory = OutOfMemory
 
 -- how a run stops where there is no summary of a generated script
 abbrev pub stop_of_bench : BenchEnd → Stop
-stop_of_bench (bench.Malformed k reason) = Malformed k reason
-stop_of_bench (bench.HeapLimit k counted request limit) = HeapLimit k counted request limit
 stop_of_bench bench.OutOfMemory = OutOfMemory
 stop_of_bench bench.WriteFault = WriteFault
 

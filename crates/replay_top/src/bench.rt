@@ -69,18 +69,6 @@ fn stop_of_bench(end: BenchEnd) -> Stop
     ensures { result ≡ stop_of_bench end }
 {
     match end {
-        BenchEnd::Malformed { line, reason } => Stop::Malformed { line, reason },
-        BenchEnd::HeapLimit {
-            line,
-            counted,
-            request,
-            limit,
-        } => Stop::HeapLimit {
-            line,
-            counted,
-            request,
-            limit,
-        },
         BenchEnd::OutOfMemory => Stop::OutOfMemory,
         BenchEnd::WriteFault => Stop::WriteFault,
     }

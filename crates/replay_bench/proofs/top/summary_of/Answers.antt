@@ -9,8 +9,8 @@ used-requires c = can_tell c.args.start c.args.count c.in_ok-tally.tally c.do_it
 pub print_summary-requires : goal.print_summary-requires
 print_summary-requires c = proper_used _ _
 
-pub returns-clause-ok : goal.returns-clause-ok
-returns-clause-ok c =
+pub returns : goal.returns
+returns c =
     summarizes (generated_items c.args.start c.args.count) c.in_ok-tally.tally c.do_items.new.session c.do_items.new.heap
     (UsedIs c.in-Ok.kept c.in-Ok.husks) c.new-text.result.items c.print_summary.new.text.items
     c.in_ok-tally.ensures (used_told c.do_items.new.heap c.in-Ok.kept c.in-Ok.husks _ _ c.in-Ok.kept-is c.in-Ok.husks-is c.in-Ok.ensures.performs) c.new-text.ensures.items
