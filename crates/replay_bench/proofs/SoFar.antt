@@ -1,15 +1,13 @@
 -- A script that is done up to some item, and how it goes on.
-use Rattle.std.proofs.Common.{◌≡◌, ℕ, List, [], ◌∷◌, ◌++◌, length, Some, None, Err, refl, sym, ap, ◌∙◌, subst, append_assoc, append-nil}
+use Rattle.std.proofs.Common.{◌≡◌, ℕ, List, [], ◌∷◌, ◌++◌, length, Some, refl, sym, ap, ◌∙◌, subst, append_assoc, append-nil}
 use Rattle.text_model.specs.declared.item.Item.{Item}
-use Rattle.text_model.specs.declared.item.Reason.{Reason}
 use Rattle.text_model.specs.declared.line.Line.{Line}
 use Rattle.object_model.specs.Setup.{defaults}
 use Rattle.store_model.specs.Progress.{Progress, at_start}
 use Rattle.store_model.specs.Transcript.{group_lines}
 use Rattle.heap_core.specs.Heap.{HeapSeen, closed_heap}
 use Rattle.session_core.specs.Seen.{SessionSeen}
-use Rattle.session_core.specs.Standing.{StandsAt, DoesItem, Answers}
-use Rattle.session_core.specs.declared.session.RunFault.TheVariants.{Malformed, HeapLimit}
+use Rattle.session_core.specs.Standing.{StandsAt, DoesItem}
 use Rattle.session_core.proofs.Places.{stands_first}
 use Rattle.bench_laws.proofs.Scripts.{IsDone, AreAllDone}
 use Rattle.replay_bench.specs.declared.tally.Tally.{Tally}
@@ -92,15 +90,3 @@ counts_item item tally new session heap at before lines none does is = record {
   counted = lines_are item tally new session heap at before lines none does is;
   stands = does.stands;
 }
-
--- a session does not refuse an item that can be done
-pub never_refused : (session session_after : SessionSeen) (heap heap_after : HeapSeen) (item : Item) (reason : Reason) (before after : List Line)
-    → (can : CanDoItem session heap item) → Answers can.at item session_after heap_after before after (Err (Malformed reason)) → ⊥
-never_refused session session_after heap heap_after item reason before after can answer =
-    let clash : None ≡ Some reason = sym can.accepted ∙ answer.0 in let no : ⊥ = cc in no
-
--- nor does the limit
-pub never_exceeds : (session session_after : SessionSeen) (heap heap_after : HeapSeen) (item : Item) (counted request limit : ℕ) (before after : List Line)
-    → (can : CanDoItem session heap item) → Answers can.at item session_after heap_after before after (Err (HeapLimit counted request limit)) → ⊥
-never_exceeds session session_after heap heap_after item counted request limit before after can answer =
-    can.within counted request limit answer.groups answer.next answer.exceeds
