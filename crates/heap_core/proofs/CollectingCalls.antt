@@ -7,13 +7,14 @@ use Rattle.text_model.specs.declared.line.Line.{Line}
 use Rattle.heap_parts.specs.Parts.{HeapParts}
 use Rattle.collect_laws.specs.Events.{Undergoes}
 use Rattle.collect_laws.specs.Room.{IsCommandRefused}
+use Rattle.collect_laws.proofs.TestLaws.{needs_in, exceeds_in}
 use Rattle.heap_core.specs.declared.fault.HeapFault.{HeapFault}
 use Rattle.heap_core.specs.declared.fault.HeapFault.TheVariants.{Spent, OutOfMemory, HeapLimit}
 use Rattle.heap_core.specs.Heap.{HeapSeen, heap_of, spent_heap}
 use Rattle.heap_core.specs.Commands.{Performs, fault_of}
 use Rattle.heap_core.specs.Bearing.{PartsAppend}
-use Rattle.heap_core.specs.Room.{LedByRoom, EndsBirth}
-use Rattle.heap_core.specs.HeapBirths.{Exceeds, LeavesBirth, AnswersBirth, EndsCall, EndsBirthCall}
+use Rattle.heap_core.specs.Room.{LedByRoom, CollectsForCommand, EndsBirth}
+use Rattle.heap_core.specs.HeapBirths.{Exceeds, LeavesBirth, BecomesSpent, AnswersBirth, EndsCall, EndsBirthCall}
 use Rattle.heap_core.proofs.Calls.{performs_appended}
 
 -- What a call that collects answers.
@@ -54,13 +55,27 @@ exceeds_birth parts after command counted request limit before told u = record {
   exceeds = λ store s. u.leads store s;
 }
 
+-- memory ran out inside a collection, which was due in each store
+becomes_spent : (parts : HeapParts) (new : HeapSeen) (command : Command) → new ≡ spent_heap → CollectsForCommand command parts → BecomesSpent command (heap_of parts) new
+becomes_spent parts new command spent c = record {
+  spent = spent;
+  due = λ store s. record {
+    words = c.words;
+    asks = c.asks;
+    due = elim c.collects [
+      | inl needs ↦ inl (needs_in s c.words ∙ needs)
+      | inr exceeds ↦ inr (exceeds_in s c.words ∙ exceeds)
+    ];
+  };
+}
+
 -- What the call of a birth answers.
 answers_parts : (parts after : HeapParts) (new : HeapSeen) (command : Command) (before told : List Line) (ended result : Result (Unit {0}) HeapFault)
     → EndsBirth command parts after before told ended → EndsBirthCall ended (heap_of after) new result → AnswersBirth command (heap_of parts) new before told result
 answers_parts parts after new command before told (Ok done) result b ends =
     subst (AnswersBirth command (heap_of parts) new before told) (sym ends.0) (performs_appended (heap_of parts) new parts after command before told refl ends.1 b)
 answers_parts parts after new command before told (Err Spent) result b ends =
-    subst (AnswersBirth command (heap_of parts) new before told) (sym ends.0) (refl, ([], b ∙ sym (append-nil before)), inl ends.1)
+    subst (AnswersBirth command (heap_of parts) new before told) (sym ends.0) (refl, ([], b.0 ∙ sym (append-nil before)), inl (becomes_spent parts new command ends.1 b.1))
 answers_parts parts after new command before told (Err OutOfMemory) result b ends =
     subst (AnswersBirth command (heap_of parts) new before told) (sym ends.0)
     (refl, b.0, inr (subst (LeavesBirth (heap_of parts)) (sym ends.1) (leaves_birth parts after b.1)))

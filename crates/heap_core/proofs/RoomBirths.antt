@@ -21,7 +21,7 @@ use Rattle.heap_core.specs.declared.fault.HeapFault.{HeapFault}
 use Rattle.heap_core.specs.declared.fault.HeapFault.TheVariants.{Spent, OutOfMemory, HeapLimit}
 use Rattle.heap_core.specs.Commands.{AreReady, PartsKeep}
 use Rattle.heap_core.specs.Bearing.{MayAsk, MayBear, MayBearWeak, BearsKnown, BearsWeakKnown}
-use Rattle.heap_core.specs.Room.{KeepsLines, LedByRoom, FindsRoom, EndsRoom, BornInRoom, RefusedInRoom, BearsInRoom, EndsBirth}
+use Rattle.heap_core.specs.Room.{KeepsLines, LedByRoom, IsCollecting, FindsRoom, EndsRoom, BornInRoom, RefusedInRoom, BearsInRoom, EndsBirth}
 use Rattle.heap_core.proofs.BearLaws.{fits_in_room, one_born}
 use Rattle.heap_core.proofs.WeakBearLaws.{weak_in_room}
 use Rattle.heap_core.proofs.RoomCalls.{standing_after, appends_event}
@@ -65,10 +65,23 @@ pub led_by_room : {heap mid new : HeapParts} {before between after : List Line} 
     → KeepsLines before after × LedByRoom heap new
 led_by_room n found keeps told = ((found.made.lines, told ∙ found.made.appended), (n, kept_after found.made keeps.setup keeps.stands))
 
+-- no room was made
+pub fault_in_room : (heap new : HeapParts) (before after : List Line) (root type_id items n : ℕ) (info : TypeInfo) (fault : HeapFault) → value_at heap.setup.types type_id ≡ Some info
+    → n ≡ words_in info.shape items → EndsRoom n heap new before after (Err fault) → BearsInRoom root type_id items heap new before after (Err fault)
+fault_in_room heap new before after root type_id items n info Spent known is ends =
+    (ends.0, record { info = info; known = known; collects = subst (λ (k : ℕ). IsCollecting k heap) is ends.1 })
+fault_in_room heap new before after root type_id items n info OutOfMemory known is ends = ends
+fault_in_room heap new before after root type_id items n info (HeapLimit counted request limit) known is ends = record {
+  info = info;
+  known = known;
+  asked = ends.0 ∙ is;
+  refused = subst (λ (k : ℕ). FindsNoRoom k counted limit heap new before after) is ends.1;
+}
+
 -- and so the command of a birth ends
 pub fault_ends : (heap new : HeapParts) (before after : List Line) (command : Command) (n : ℕ) (fault : HeapFault) → words_asked heap.setup command ≡ Some n
     → EndsRoom n heap new before after (Err fault) → EndsBirth command heap new before after (Err fault)
-fault_ends heap new before after command n Spent asks ends = ends
+fault_ends heap new before after command n Spent asks ends = (ends.0, record { words = n; asks = asks; collects = ends.1 })
 fault_ends heap new before after command n OutOfMemory asks ends = ends
 fault_ends heap new before after command n (HeapLimit counted request limit) asks ends =
     command_refused command counted request limit (asks ∙ ap Some (sym ends.0)) (subst (λ (k : ℕ). FindsNoRoom k counted limit heap new before after) (sym ends.0) ends.1)
@@ -76,7 +89,8 @@ fault_ends heap new before after command n (HeapLimit counted request limit) ask
 pub fixed_ends : (heap new : HeapParts) (before after : List Line) (root type_id : ℕ) (result : Result (Unit {0}) HeapFault) → BearsInRoom root type_id 0 heap new before after result
     → EndsBirth (NewFixed root type_id) heap new before after result
 fixed_ends heap new before after root type_id (Ok done) b = appends_event (new_fixed_does root type_id b.info b.known b.found.made b.found.room b.bears)
-fixed_ends heap new before after root type_id (Err Spent) b = b
+fixed_ends heap new before after root type_id (Err Spent) b =
+    (b.0, record { words = words_in b.1.info.shape 0; asks = fixed_asks heap.setup root type_id b.1.info b.1.known; collects = b.1.collects })
 fixed_ends heap new before after root type_id (Err OutOfMemory) b = b
 fixed_ends heap new before after root type_id (Err (HeapLimit counted request limit)) b =
     fault_ends heap new before after (NewFixed root type_id) (words_in b.info.shape 0) (HeapLimit counted request limit) (fixed_asks heap.setup root type_id b.info b.known) (b.asked, b.refused)
@@ -84,7 +98,8 @@ fixed_ends heap new before after root type_id (Err (HeapLimit counted request li
 pub array_ends : (heap new : HeapParts) (before after : List Line) (root type_id len : ℕ) (result : Result (Unit {0}) HeapFault) → BearsInRoom root type_id len heap new before after result
     → EndsBirth (NewArray root type_id len) heap new before after result
 array_ends heap new before after root type_id len (Ok done) b = appends_event (new_array_does root type_id len b.info b.known b.found.made b.found.room b.bears)
-array_ends heap new before after root type_id len (Err Spent) b = b
+array_ends heap new before after root type_id len (Err Spent) b =
+    (b.0, record { words = words_in b.1.info.shape len; asks = array_asks heap.setup root type_id len b.1.info b.1.known; collects = b.1.collects })
 array_ends heap new before after root type_id len (Err OutOfMemory) b = b
 array_ends heap new before after root type_id len (Err (HeapLimit counted request limit)) b =
     fault_ends heap new before after (NewArray root type_id len) (words_in b.info.shape len) (HeapLimit counted request limit) (array_asks heap.setup root type_id len b.info b.known) (b.asked, b.refused)

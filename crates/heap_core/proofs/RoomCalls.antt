@@ -1,7 +1,7 @@
 -- Collections of the parts of a heap, and the room that they make.
-use Rattle.std.proofs.Common.{◌≡◌, ◌≢◌, ℕ, ◌+◌, ◌<◌, ◌≤◌, true, false, List, [], ◌++◌, append-nil, Result, Ok, Err, OnOk, refl, sym, ◌∙◌, arith}
+use Rattle.std.proofs.Common.{◌≡◌, ◌≢◌, ℕ, ◌+◌, ◌<◌, ◌≤◌, true, false, List, [], ◌++◌, append-nil, Result, Ok, Err, OnOk, OnErr, refl, sym, ap, ◌∙◌, inl, inr, arith}
 use Rattle.std.specs.declared.alloc.AllocError.{AllocError}
-use Rattle.std.specs.Prelude.{is_ok, is_err, if◌then◌else◌}
+use Rattle.std.specs.Prelude.{Bool, is_ok, is_err, if◌then◌else◌, ◌⊎◌}
 use Rattle.text_model.specs.declared.command.Command.{Command}
 use Rattle.text_model.specs.declared.line.Line.{Line}
 use Rattle.text_model.specs.declared.line.Phase.{Phase}
@@ -15,7 +15,8 @@ use Rattle.minor_collect.proofs.StartedCollects.{stands_whole}
 use Rattle.collect_laws.specs.Events.{EventOf, Undergoes, Doing}
 use Rattle.heap_core.specs.Commands.{AreStanding}
 use Rattle.heap_core.specs.Bearing.{PartsAppend}
-use Rattle.heap_core.specs.Room.{KeepsLines, LedByRoom, FindsRoom, BornInRoom, RefusedInRoom, BearsInRoom, EndsBirth}
+use Rattle.collect_laws.specs.Tests.{needs_block_in, exceeds_limit_in}
+use Rattle.heap_core.specs.Room.{KeepsLines, LedByRoom, IsCollecting, FindsRoom, BornInRoom, RefusedInRoom, BearsInRoom, EndsBirth}
 
 -- parts that stand for a store can be collected
 pub can_collect : {heap : HeapParts} → AreStanding heap → CanCollect heap
@@ -75,3 +76,26 @@ appended_where (Err error) now old more is e = absurd (let no : ⊥ = cc in no)
 pub without_error : {P : Type 0} (r : Result (Unit {0}) AllocError) → is_err r ≡ false → OnOk r P → P
 without_error (Ok u) is p = p
 without_error (Err error) is p = absurd (let no : ⊥ = cc in no)
+
+-- and where there was one
+pub with_error : {P : Type 0} (r : Result (Unit {0}) AllocError) → is_err r ≡ true → OnErr r P → P
+with_error (Ok u) is p = absurd (let no : ⊥ = cc in no)
+with_error (Err error) is p = p
+
+-- a test has one answer
+pub never_both : {b : Bool} → b ≡ true → b ≡ false → ⊥
+never_both is other = let clash : true ≡ false = sym is ∙ other in let none : ⊥ = cc in none
+
+either : (b : Bool) → (b ≡ true) ⊎ (b ≡ false)
+either true = inl refl
+either false = inr refl
+
+-- a whole collection that is due behind a block was due before, where no block came
+pub collecting_behind : (old mid : HeapParts) (words : ℕ) (r : Result (Unit {0}) AllocError) → (needs_block_in old words ≡ false → mid ≡ old)
+    → OnErr r (exceeds_limit_in mid words ≡ true) → OnErr r (IsCollecting words old)
+collecting_behind old mid words (Ok u) same due = tt
+collecting_behind old mid words (Err error) same due =
+    elim (either (needs_block_in old words)) [
+      | inl needs ↦ inl needs
+      | inr unneeded ↦ inr (ap (λ (heap : HeapParts). exceeds_limit_in heap words) (sym (same unneeded)) ∙ due)
+    ]

@@ -1,10 +1,12 @@
 -- What the calls that collect answer, and those of births.
-use Rattle.std.specs.Prelude.{◌≡◌, ℕ, false, List, ◌++◌, Result, Ok, Err, IsTrue, ◌⊎◌}
+use Rattle.std.specs.Prelude.{◌≡◌, ℕ, true, false, List, ◌++◌, Some, Result, Ok, Err, IsTrue, ◌⊎◌}
 use Rattle.std.specs.declared.alloc.AllocError.{AllocError}
 use Rattle.text_model.specs.declared.command.Command.{Command}
 use Rattle.text_model.specs.declared.line.Line.{Line}
+use Rattle.object_model.specs.Setup.{Setup}
 use Rattle.store_model.specs.Store.{Store}
-use Rattle.store_model.specs.Collections.{MakesRoom}
+use Rattle.store_model.specs.Births.{words_asked}
+use Rattle.store_model.specs.Collections.{MakesRoom, needs_block, exceeds_limit}
 use Rattle.collect_laws.specs.Room.{IsCommandRefused}
 use Rattle.heap_core.specs.declared.fault.HeapFault.{HeapFault}
 use Rattle.heap_core.specs.declared.fault.HeapFault.TheVariants.{Spent, OutOfMemory, HeapLimit}
@@ -32,13 +34,24 @@ pub record LeavesBirth (old new : HeapSeen) : Type 0 where
   pub leaves : (store : Store) → StandsFor old store → (later : Store)
       × OfParts old.parts (λ parts. MakesRoom parts.setup.settings store words lines later) × StandsFor new later
 
--- What the call of a birth answers: it is done, or the limit refuses it, or memory ran out, inside a collection or elsewhere. A spent
--- heap does nothing.
+-- A collection comes before the birth that the command asks for: the nursery has no room for it, or it would exceed the limit.
+pub record IsCollectionDue (command : Command) (setup : Setup) (store : Store) : Type 0 where
+  pub words : ℕ
+  pub asks : words_asked setup command ≡ Some words
+  pub due : (needs_block setup.settings store words ≡ true) ⊎ (exceeds_limit setup.settings store words ≡ true)
+
+-- The heap became spent, which it does only where a collection comes before the birth, in each store that it stood for.
+pub record BecomesSpent (command : Command) (old new : HeapSeen) : Type 0 where
+  pub spent : new ≡ spent_heap
+  pub due : (store : Store) → StandsFor old store → OfParts old.parts (λ parts. IsCollectionDue command parts.setup store)
+
+-- What the call of a birth answers: it is done, or the limit refuses it, or memory ran out, inside a collection that was due or
+-- elsewhere. A spent heap does nothing.
 abbrev pub AnswersBirth : Command → HeapSeen → HeapSeen → List Line → List Line → Result (Unit {0}) HeapFault → Type 0
 AnswersBirth command old new before after (Ok done) = Performs old new command before after
 AnswersBirth command old new before after (Err Spent) = IsTrue old.is_spent × (new ≡ old) × (after ≡ before)
 AnswersBirth command old new before after (Err OutOfMemory) =
-    (old.is_spent ≡ false) × KeepsLines before after × ((new ≡ spent_heap) ⊎ LeavesBirth old new)
+    (old.is_spent ≡ false) × KeepsLines before after × (BecomesSpent command old new ⊎ LeavesBirth old new)
 AnswersBirth command old new before after (Err (HeapLimit counted request limit)) =
     (old.is_spent ≡ false) × Exceeds old new command counted request limit before after
 

@@ -1,5 +1,5 @@
 //! Collections: minor collections, blocks, cycles, and the room for a birth.
-ghost use Rattle.std.specs.Prelude.{◌≡◌, ◌≤◌, [], OnOk, OnErr};
+ghost use Rattle.std.specs.Prelude.{◌≡◌, ◌≤◌, true, false, [], OnOk, OnErr};
 ghost use Rattle.text_model.specs.declared.command.Command.TheVariants.{Minor, Step, Collect};
 ghost use Rattle.store_model.specs.Collections.{is_scanning as is_scanning_phase};
 ghost use Rattle.heap_parts.specs.Collects.{CollectsMinor, StepsMajor};
@@ -8,7 +8,7 @@ ghost use Rattle.collect_laws.specs.Tests.{is_step_due_in, needs_block_in, excee
 ghost use Rattle.collect_laws.specs.Collections.{CollectsStep, CollectsBlock, CollectsCycle, CollectsAll, MakesNurseryRoom, MakesLimitRoom, MakesRoomFor};
 ghost use Rattle.heap_core.specs.Bearing.{PartsAppend};
 ghost use Rattle.heap_core.specs.Commands.{AreStanding};
-ghost use Rattle.heap_core.specs.Room.{EndsRoom};
+ghost use Rattle.heap_core.specs.Room.{EndsRoom, IsCollecting};
 
 use crate::fault::HeapFault;
 use heap_parts::Parts;
@@ -115,7 +115,7 @@ pub(crate) fn make_room(
     Ok(())
 }
 
-/// The collections that come before a birth of so many words. The error is out of memory, and the parts are spent then.
+/// The collections that come before a birth of so many words. The error is out of memory: one was due then, and the parts are spent.
 fn make_collections(
     parts: &mut Parts,
     collector: &mut Collector,
@@ -123,7 +123,8 @@ fn make_collections(
 ) -> Result<(), AllocError>
     requires standing { AreStanding parts.old }
     requires few { words ≤ 16777219 }
-    ensures { OnOk result (MakesRoomFor words parts.old parts.new collector.old.lines.items collector.new.lines.items) }
+    ensures makes { OnOk result (MakesRoomFor words parts.old parts.new collector.old.lines.items collector.new.lines.items) }
+    ensures due { OnErr result (IsCollecting words parts.old) }
 {
     make_nursery_room(parts, collector, words)?;
     make_limit_room(parts, collector, words)
@@ -137,7 +138,9 @@ fn make_nursery_room(
 ) -> Result<(), AllocError>
     requires standing { AreStanding parts.old }
     requires few { words ≤ 16777219 }
-    ensures { OnOk result (MakesNurseryRoom words parts.old parts.new collector.old.lines.items collector.new.lines.items) }
+    ensures makes { OnOk result (MakesNurseryRoom words parts.old parts.new collector.old.lines.items collector.new.lines.items) }
+    ensures due { OnErr result (needs_block_in parts.old words ≡ true) }
+    ensures same { needs_block_in parts.old words ≡ false → parts.new ≡ parts.old }
 {
     if needs_block(parts, words) {
         return make_due_block(parts, collector);
@@ -153,7 +156,8 @@ fn make_limit_room(
 ) -> Result<(), AllocError>
     requires standing { AreStanding parts.old }
     requires few { words ≤ 16777219 }
-    ensures { OnOk result (MakesLimitRoom words parts.old parts.new collector.old.lines.items collector.new.lines.items) }
+    ensures makes { OnOk result (MakesLimitRoom words parts.old parts.new collector.old.lines.items collector.new.lines.items) }
+    ensures due { OnErr result (exceeds_limit_in parts.old words ≡ true) }
 {
     if exceeds_limit(parts, words) {
         return make_cycles(parts, collector);

@@ -38,7 +38,7 @@ birth_ends old new command same before after (Err Spent) is makes alive b = let 
 birth_ends old new command same before after (Err OutOfMemory) is makes alive b = (
   b.1,
   elim b.2 [
-    | inl spent ↦ inl (spent_is new spent)
+    | inl becomes ↦ inl (spent_is new becomes.spent)
     | inr leaves ↦ inr (inr (ap makes_blocks is ∙ makes, leaves))
   ],
 )

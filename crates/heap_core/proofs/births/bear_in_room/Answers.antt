@@ -1,6 +1,11 @@
 use Rattle.std.proofs.Common.{sym, ◌∙◌}
-use Rattle.heap_core.proofs.RoomBirths.{may_in_room, born_in_room, led_by_room}
+use Rattle.heap_core.proofs.RoomBirths.{may_in_room, born_in_room, fault_in_room, led_by_room}
 use Rattle.heap_core.proofs.births.bear_in_room.Goals as goal
+
+pub returns-in-Err : goal.returns-in-Err
+returns-in-Err c =
+    fault_in_room c.args.parts.now c.make_room.new.parts c.args.out.now.items c.make_room.new.out.items c.args.root c.args.type_id c.args.items c.words.result c.in-Some.info c.in-Err.fault
+    (sym c.type_info.ensures ∙ c.in-Some.is) c.words.ensures c.in-Err.ensures
 
 pub bear-requires : goal.bear-requires
 bear-requires c =
