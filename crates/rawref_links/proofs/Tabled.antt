@@ -1,5 +1,5 @@
 -- A hash map as a table: what its steps are to the table.
-use Rattle.std.proofs.Common.{◌≡◌, ℕ, Bool, true, false, is_some, cond, ◌==◌, nat_eq, List, [], ◌∷◌, Option, Some, None, sym, refl, ap, ◌∙◌, arith}
+use Rattle.std.proofs.Common.{◌≡◌, ℕ, Bool, true, false, is_some, cond, ◌==◌, nat_eq, List, [], ◌∷◌, length, Option, Some, None, sym, refl, ap, ◌∙◌, subst, arith}
 use Rattle.std.specs.Map.{lookup}
 use Rattle.std.proofs.lemmas.Bool.Decides.{nat_tests}
 use Rattle.type_table.specs.Table.{Table, KeysRise, value_at, with_value, without_key}
@@ -46,6 +46,20 @@ module _ {X : Type 0} where
   pub value_at-map : (entries : List (ℕ × X)) (seen : Table X) → tabled entries ≡ seen → (key : ℕ) (value : Option X)
       → lookup (nat_eq key) entries ≡ value → value ≡ value_at seen key
   value_at-map entries seen view key value found = sym found ∙ sym (value_at-tabled entries key) ∙ ap (λ t. value_at t key) view
+
+-- a map without entries is the table without any
+tabled-none : (entries : List (ℕ × LinksOf)) (seen : Table LinksOf) → tabled entries ≡ seen → length entries ≡ 0 → [] ≡ seen
+tabled-none [] seen view none = view
+tabled-none (entry ∷ entries) seen view none = absurd (omega (arith, none))
+
+pub none-at : (entries : List (ℕ × LinksOf)) (seen : Table LinksOf) (place : ℕ) → tabled entries ≡ seen → length entries ≡ 0 → [] ≡ (links_at seen place).numbers
+none-at entries seen place view none = ap (λ (t : Table LinksOf). (links_at t place).numbers) (tabled-none entries seen view none)
+
+pub none-removed : (entries : List (ℕ × LinksOf)) (seen : Table LinksOf) (place : ℕ) → tabled entries ≡ seen → length entries ≡ 0 → seen ≡ without_key seen place
+none-removed entries seen place view none = subst (λ (t : Table LinksOf). t ≡ without_key t place) (tabled-none entries seen view none) refl
+
+pub none-moved : (entries : List (ℕ × LinksOf)) (seen : Table LinksOf) (from to : ℕ) → tabled entries ≡ seen → length entries ≡ 0 → seen ≡ moved_to seen from to (value_at seen from)
+none-moved entries seen from to view none = subst (λ (t : Table LinksOf). t ≡ moved_to t from to (value_at t from)) (tabled-none entries seen view none) refl
 
 -- the links that are found are those at the place
 pub links_at-map : (entries : List (ℕ × LinksOf)) (seen : Table LinksOf) → tabled entries ≡ seen → (place : ℕ) (found : Option LinksOf)

@@ -92,6 +92,10 @@ impl Objects {
     pub(crate) fn numbers(&self, place: u64) -> &[u32]
         ensures { result.now ≡ (links_at self.now place).numbers }
     {
+        // Where nothing is linked, no hash is made.
+        if self.links.is_empty() {
+            return &[];
+        }
         match self.links.get(&place) {
             Some(links) => links.numbers.as_slice(),
             None => &[],
@@ -139,6 +143,9 @@ impl Objects {
     fn remove(&mut self, place: u64)
         ensures { self.new ≡ without_key self.old place }
     {
+        if self.links.is_empty() {
+            return;
+        }
         self.links.swap_remove(&place);
     }
 
@@ -147,6 +154,9 @@ impl Objects {
         ensures ok { OnOk result (self.new ≡ moved_to self.old from to (value_at self.old from)) }
         ensures err { OnErr result (self.new ≡ self.old) }
     {
+        if self.links.is_empty() {
+            return Ok(());
+        }
         if !self.links.contains_key(&from) {
             return Ok(());
         }
