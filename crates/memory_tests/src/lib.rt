@@ -7,3 +7,5 @@
 mod headers;
 #[cfg(test)]
 mod spaces;
+#[cfg(test)]
+mod views;
