@@ -6,6 +6,8 @@
 #[cfg(test)]
 mod headers;
 #[cfg(test)]
+mod pages;
+#[cfg(test)]
 mod spaces;
 #[cfg(test)]
 mod views;
