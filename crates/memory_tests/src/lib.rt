@@ -6,6 +6,8 @@
 #[cfg(test)]
 mod headers;
 #[cfg(test)]
+mod large_blocks;
+#[cfg(test)]
 mod pages;
 #[cfg(test)]
 mod spaces;
