@@ -8,6 +8,8 @@ mod headers;
 #[cfg(test)]
 mod large_blocks;
 #[cfg(test)]
+mod old_blocks;
+#[cfg(test)]
 mod pages;
 #[cfg(test)]
 mod spaces;
