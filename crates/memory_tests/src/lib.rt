@@ -14,4 +14,6 @@ mod pages;
 #[cfg(test)]
 mod spaces;
 #[cfg(test)]
+mod sweeps;
+#[cfg(test)]
 mod views;
