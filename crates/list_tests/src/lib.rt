@@ -5,3 +5,5 @@
 
 #[cfg(test)]
 mod gaps;
+#[cfg(test)]
+mod homes;
