@@ -7,3 +7,5 @@
 mod gaps;
 #[cfg(test)]
 mod homes;
+#[cfg(test)]
+mod marks;
