@@ -9,3 +9,5 @@ mod gaps;
 mod homes;
 #[cfg(test)]
 mod marks;
+#[cfg(test)]
+mod weaks;
