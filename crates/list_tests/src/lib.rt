@@ -4,6 +4,8 @@
 #![tactic(auto)]
 
 #[cfg(test)]
+mod cards;
+#[cfg(test)]
 mod gaps;
 #[cfg(test)]
 mod homes;
