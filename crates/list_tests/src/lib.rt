@@ -6,6 +6,8 @@
 #[cfg(test)]
 mod cards;
 #[cfg(test)]
+mod finalizers;
+#[cfg(test)]
 mod gaps;
 #[cfg(test)]
 mod homes;
