@@ -12,6 +12,8 @@ mod gaps;
 #[cfg(test)]
 mod homes;
 #[cfg(test)]
+mod links;
+#[cfg(test)]
 mod marks;
 #[cfg(test)]
 mod weaks;
