@@ -16,8 +16,6 @@ mod entry;
 mod marking;
 mod passes;
 mod queue;
-#[cfg(test)]
-mod tests;
 
 pub use crate::entry::Entry;
 use crate::entry::append_places;

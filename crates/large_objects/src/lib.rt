@@ -10,9 +10,6 @@ ghost use Rattle.heap_space.specs.Extents.{Extent, begins_between, KeepsOutside,
 ghost use Rattle.large_objects.specs.Blocks.{larges_of, places_of, begin_elsewhere, without_place, ListsBlocks};
 ghost use Rattle.large_objects.specs.Sweep.{is_kept, unvisited, swept, left_over, freed_births};
 
-#[cfg(test)]
-mod tests;
-
 use heap_space::Space;
 use object_header::{Flag, clear, is_set};
 use std::alloc::{AllocError, Global};

@@ -4,4 +4,3 @@ pub mod VisitStep
 pub mod MarkLoop
 pub mod FrameLaws
 pub mod ClosureLaws
-pub mod TwoObjects

@@ -7,8 +7,6 @@ ghost use Rattle.mark_steps.specs.Visits.{CanVisit};
 ghost use Rattle.mark_steps.specs.Ends.{Marks, StartsWith};
 
 mod marking;
-#[cfg(test)]
-mod tests;
 
 use crate::marking::visit_all;
 use heap_space::Space;

@@ -10,8 +10,6 @@ ghost use Rattle.nursery_gaps.specs.Ranges.{AreRising};
 ghost use Rattle.nursery_gaps.specs.Nursery.{unused, Fits, FitsLowest, HandsOut, IsLaidOut, spare_words};
 
 mod gaps;
-#[cfg(test)]
-mod tests;
 
 use gaps::{append, first_gap, free_between, pass};
 use std::alloc::{AllocError, Global};

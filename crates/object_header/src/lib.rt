@@ -6,8 +6,6 @@ ghost use Rattle.std.specs.Prelude.{◌<◌, ◌^◌};
 
 mod flags;
 mod packing;
-#[cfg(test)]
-mod tests;
 mod words;
 
 pub use flags::{Flag, FlagSet};

@@ -8,6 +8,3 @@ mod fields;
 pub use birth::{Birth, init};
 pub use copying::move_refs;
 pub use fields::{ObjView, int_at, ref_at, set_int, set_ref, view};
-
-#[cfg(test)]
-mod tests;

@@ -13,4 +13,3 @@ pub mod SweepLaws
 pub mod BlockSweepLaws
 pub mod StepLaws
 pub mod CountLaws
-pub mod FreshLaws

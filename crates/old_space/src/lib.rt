@@ -10,9 +10,6 @@ ghost use Rattle.heap_space.specs.Extents.{Extent, KeepsOutside, KeepsWords};
 ghost use Rattle.size_pages.specs.Headers.{AppendsLive, HoldsMore};
 ghost use Rattle.object_model.specs.Setup.{small_words};
 
-#[cfg(test)]
-mod tests;
-
 use heap_space::Space;
 use large_objects::Large;
 use object_model::Settings;

@@ -17,8 +17,6 @@ mod cut;
 mod objects;
 mod structure;
 mod structures;
-#[cfg(test)]
-mod tests;
 
 use crate::cut::{cut_all, move_all, put_in_order};
 use crate::objects::Objects;

@@ -18,8 +18,6 @@ mod arrays;
 mod entries;
 mod kept;
 mod marks;
-#[cfg(test)]
-mod tests;
 
 use crate::entries::Entries;
 use crate::kept::Kept;

@@ -9,9 +9,6 @@ ghost use Rattle.std.specs.FinMap as map;
 ghost use Rattle.std.specs.Coded.{coded_ℕ};
 ghost use Rattle.shadow_ids.specs.Hash.{hash_of as hash_number};
 
-#[cfg(test)]
-mod tests;
-
 use indexmap::IndexMap;
 use std::alloc::{AllocError, Global};
 use std::marker::Model;

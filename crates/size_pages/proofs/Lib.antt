@@ -20,7 +20,6 @@ pub mod ChoiceLaws
 pub mod ListedLaws
 pub mod FrameLaws
 pub mod OrderLaws
-pub mod ObjectLaws
 pub mod WaitLaws
 pub mod TimesLaws
 pub mod UsedLaws

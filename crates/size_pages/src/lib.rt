@@ -21,8 +21,6 @@ mod listing;
 mod moves;
 mod page_sweep;
 mod sweep;
-#[cfg(test)]
-mod tests;
 mod words;
 
 use heap_space::Space;

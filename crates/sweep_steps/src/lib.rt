@@ -7,9 +7,6 @@ ghost use Rattle.std.specs.List.Sorted.{IsNonDecreasing, IsPermutation};
 ghost use Rattle.heap_space.specs.Memory.{Memory};
 ghost use Rattle.sweep_steps.specs.Steps.{Step, Sweeps, HasSwept};
 
-#[cfg(test)]
-mod tests;
-
 use heap_space::Space;
 use std::alloc::AllocError;
 

@@ -6,4 +6,3 @@ pub mod Once
 pub mod Settling
 pub mod Rules
 pub mod TargetLaws
-pub mod TwoWeak

@@ -13,8 +13,6 @@ ghost use Rattle.weak_lists.specs.Cleared.{StartsWith, births_losing, TellsInOrd
 mod order;
 mod places;
 mod targets;
-#[cfg(test)]
-mod tests;
 
 use crate::order::{holds, sort_from};
 use crate::places::drop_vanished;
