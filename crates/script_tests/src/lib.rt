@@ -1,0 +1,6 @@
+//! Tests of the crates that read and write scripts and transcripts, and of those below them: calls
+//! over real memory, against texts and records that were worked out by hand, and calls that fail.
+#![tactic(auto)]
+
+#[cfg(test)]
+mod types;
