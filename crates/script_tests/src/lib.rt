@@ -7,6 +7,8 @@ mod files;
 #[cfg(test)]
 mod lines;
 #[cfg(test)]
+mod records;
+#[cfg(test)]
 mod transcripts;
 #[cfg(test)]
 mod types;
