@@ -5,6 +5,8 @@
 #[cfg(test)]
 mod files;
 #[cfg(test)]
+mod forms;
+#[cfg(test)]
 mod lines;
 #[cfg(test)]
 mod records;
