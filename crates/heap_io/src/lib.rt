@@ -10,8 +10,6 @@ mod copy;
 mod disk;
 mod memory;
 mod sure;
-#[cfg(test)]
-mod tests;
 
 ghost use Rattle.std.specs.Prelude.{◌≡◌, ◌<◌, ◌≤◌, ℕ, Bool, List, Option, IfOk, IsTrue, OnOk, length};
 ghost use Rattle.std.specs.Io.{ReadsAtMost};

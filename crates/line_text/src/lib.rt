@@ -9,6 +9,3 @@ mod words;
 pub use parse::parse_output_line;
 pub use print::{print_line, print_lines};
 pub use spelling::texts_of_lines_differ;
-
-#[cfg(test)]
-mod tests;

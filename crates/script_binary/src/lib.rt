@@ -18,6 +18,3 @@ pub use end::BinEnd;
 pub use reader::BinReader;
 pub use text_model::{Command, Item};
 pub use units::says_its_items;
-
-#[cfg(test)]
-mod tests;

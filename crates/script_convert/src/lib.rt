@@ -11,6 +11,3 @@ pub use end::ConvertEnd;
 pub use form::convert;
 pub use reader::{ScriptReader, UnitEnd};
 pub use write::write_all;
-
-#[cfg(test)]
-mod tests;

@@ -5,8 +5,6 @@
 mod commands;
 mod items;
 mod script;
-#[cfg(test)]
-mod tests;
 
 pub use items::Generator;
 pub use script::generate;

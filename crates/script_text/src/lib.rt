@@ -23,6 +23,3 @@ pub use parse::parse_line;
 pub use ranges::{item_number, own_number, slot_number, type_number};
 pub use reader::{LineReader, ReadEnd};
 pub use text_model::{BadLine, Command, Item};
-
-#[cfg(test)]
-mod tests;

@@ -178,25 +178,3 @@ fn take_line<F: Files>(
         Some(_) => Err(ReadEnd::TooLong),
     }
 }
-
-#[cfg(test)]
-mod tests {
-    use super::*;
-    use heap_io::SureFiles;
-    use std::test::Fail;
-
-    #[test]
-    fn reads_lines_and_a_last_one_without_lf(rt: HostRuntime) -> Result<(), Fail> {
-        let mut files = SureFiles::new(b"ab\n\ncd".to_vec(rt.alloc())?);
-        let mut reader = LineReader::new(rt.alloc())?;
-        let mut line = [0; 200];
-        files.begin_file(b"any")?;
-        assert_eq!(rt; reader.next(&mut files, &mut line), Ok(Some(2)));
-        assert_eq!(rt; &line[..2], b"ab".as_slice());
-        assert_eq!(rt; reader.next(&mut files, &mut line), Ok(Some(0)));
-        assert_eq!(rt; reader.next(&mut files, &mut line), Ok(Some(2)));
-        assert_eq!(rt; &line[..2], b"cd".as_slice());
-        assert_eq!(rt; reader.next(&mut files, &mut line), Ok(None));
-        Ok(())
-    }
-}

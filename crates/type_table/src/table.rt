@@ -121,29 +121,3 @@ fn place_of(entries: &[(u16, TypeInfo)], id: u16) -> Result<usize, usize>
 {
     entries.binary_search_by_key(&id, |entry| entry.0)
 }
-
-#[cfg(test)]
-mod tests {
-    use super::*;
-    use crate::info::Shape;
-    use std::test::Fail;
-
-    #[test]
-    fn refuses_an_id_twice_and_a_type_too_many(rt: HostRuntime) -> Result<(), Fail> {
-        let info = TypeInfo {
-            shape: Shape::Weak,
-            destructor: false,
-        };
-        let mut table = TypeTable::new(rt.alloc())?;
-        assert_eq!(rt; table.add(1, info), Ok(()));
-        assert_eq!(rt; table.add(1, info), Err(TypeFault::Twice));
-        for id in (4096..8191u16).rev() {
-            assert_eq!(rt; table.add(id, info), Ok(()));
-        }
-        assert_eq!(rt; table.add(0, info), Err(TypeFault::TooMany));
-        assert_eq!(rt; table.get(8190), Some(info));
-        assert_eq!(rt; table.get(8191), None);
-        assert_eq!(rt; table.len(), MAX_TYPES);
-        Ok(())
-    }
-}

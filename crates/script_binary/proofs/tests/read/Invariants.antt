@@ -1,5 +1,0 @@
-use Rattle.std.proofs.Common.{◌≡◌, false}
-use Rattle.script_binary.proofs.tests.read.Given as goal
-
-abbrev pub invariant-records : goal.invariant-records
-invariant-records l = l.reader.ended ≡ false
