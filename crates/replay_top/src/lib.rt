@@ -8,10 +8,3 @@ mod tell;
 mod top;
 
 pub use top::{Status, run};
-
-#[cfg(test)]
-mod tests;
-#[cfg(test)]
-mod tests_collections;
-#[cfg(test)]
-mod tests_faults;

@@ -1,7 +1,7 @@
 //! Faults of the files and of the streams at each of their calls, and files that come a byte at a time.
 
-use crate::Status;
-use crate::tests::{Machine, SURE, run_over};
+use crate::rows::{Machine, SURE, run_over};
+use replay_top::Status;
 use std::test::Fail;
 
 /// A script, which calls fail, and how `replay s` ends on it.

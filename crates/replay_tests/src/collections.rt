@@ -1,7 +1,7 @@
 //! Collections over many objects, of all kinds, and in the smallest steps.
 
-use crate::Status;
-use crate::tests::{Machine, Outcome, SURE, run_over};
+use crate::rows::{Machine, Outcome, SURE, run_over};
+use replay_top::Status;
 use std::alloc::{AllocError, Global};
 use std::test::Fail;
 

@@ -1,10 +1,8 @@
 //! What no clause says: that runs come to their ends with ample memory, and the texts that they write.
 
-use crate::line::Stop;
-use crate::tell::tell_stop;
-use crate::{Status, run};
 use heap_core::Heap;
 use heap_io::{MemFiles, MemSink, NamedFile};
+use replay_top::{Status, run};
 use std::alloc::{AllocError, Global};
 use std::test::Fail;
 
@@ -628,22 +626,5 @@ fn other_forms_are_told(rt: HostRuntime) -> Result<(), Fail> {
         b"PGH2\x02\x01\x01\x00\x00\x10\x00\x01\x13\x00\x00\xAC\x02\x14\x00\x00\x00".as_slice()
     );
     assert_eq!(rt; got.status, Status::Done);
-    Ok(())
-}
-
-#[test]
-fn the_limit_is_told(rt: HostRuntime) -> Result<(), Fail> {
-    let mut err = MemSink::new(rt.alloc(), 1000, Vec::new(rt.alloc()))?;
-    let stop = Stop::HeapLimit {
-        line: 7,
-        counted: 60,
-        request: 10,
-        limit: 64,
-    };
-    tell_stop(&mut err, stop);
-    assert_eq!(rt;
-        err.written(),
-        b"heap limit: line 7: 60 + 10 > 64\n".as_slice()
-    );
     Ok(())
 }
