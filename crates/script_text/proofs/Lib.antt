@@ -2,6 +2,7 @@ pub mod Blank
 pub mod CommandReading
 pub mod CommandSpelling
 pub mod Decimals
+pub mod HeldLine
 pub mod ItemReading
 pub mod ItemSpelling
 pub mod Joined

@@ -1,6 +1,6 @@
 -- The words of a line, by its first space.
-use Rattle.std.proofs.Common.{◌≡◌, ℕ, ◌+◌, ◌<◌, suc, Bool, true, false, List, [], ◌∷◌, ◌++◌, length, take, drop, get_or, Err, refl, sym, ap, ◌∙◌, inl, inr, take-append-drop, drop-cons, add-one}
-use Rattle.std.specs.Prelude.{not, ◌&&◌, ◌==◌}
+use Rattle.std.proofs.Common.{◌≡◌, ℕ, ◌+◌, ◌<◌, suc, Bool, true, false, List, [], ◌∷◌, ◌++◌, length, take, drop, get_or, Err, refl, sym, ap, ◌∙◌, inl, inr, arith, take-append-drop, drop-cons, add-one}
+use Rattle.std.specs.Prelude.{not, ◌&&◌, ◌==◌, bytes_eq}
 use Rattle.std.proofs.lemmas.Bool.{and_parts, not-true, and_from, cases_Bool}
 use Rattle.text_model.specs.declared.item.BadLine.TheVariants.{Syntax}
 use Rattle.text_model.specs.Lines.{in_front}
@@ -54,6 +54,13 @@ no_word_of_text bytes = let some = words_of-some bytes in ap no_word some.2
 pub new_tail_of_text : (root type_id : ℕ) (bytes : List ℕ)
     → new_tail root type_id (words_of bytes) ≡ (one_number (words_of bytes) >>= (λ len. in_range (NewArray root type_id len)))
 new_tail_of_text root type_id bytes = let some = words_of-some bytes in rw some.2 refl
+
+-- words of other first bytes are not the same
+pub other_front : (word keyword : List ℕ) → 0 < length word → 0 < length keyword → (get_or word 0 0 == get_or keyword 0 0) ≡ false
+    → false ≡ bytes_eq word keyword
+other_front [] keyword some more other = absurd (omega arith)
+other_front (b ∷ bytes) [] some more other = absurd (omega arith)
+other_front (b ∷ bytes) (k ∷ keys) some more other = rw other refl
 
 -- the text around its first space
 pub split_at_space : (text : List ℕ) (at : ℕ) → at < length text → is_word (take at text) ≡ true → get_or text at 0 ≡ 32

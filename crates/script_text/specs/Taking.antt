@@ -1,5 +1,5 @@
 -- What the parts of a reader take from the bytes ahead.
-use Rattle.std.specs.Prelude.{◌≡◌, ℕ, ◌<◌, ◌≤◌, List, [], ◌∷◌, ◌++◌, length, take, Option, Some, None, Result, Ok, Err, IsTrue}
+use Rattle.std.specs.Prelude.{◌≡◌, ℕ, ◌<◌, ◌≤◌, List, [], ◌∷◌, ◌++◌, length, take, get_or, Option, Some, None, Result, Ok, Err, IsTrue}
 use Rattle.std.specs.Io.KnownBytes.{prepend_known, Consumes, IsAtEnd, Keeps}
 use Rattle.heap_io.specs.declared.Failed.{Failed}
 use Rattle.script_text.specs.declared.reader.ReadEnd.{ReadEnd}
@@ -26,6 +26,12 @@ GivesByte before after (Err failed) = Keeps before after
 pub record IsLineOf (buf : List ℕ) (n : ℕ) : Type 0 where
   pub one_line : IsTrue (is_one_line (take n buf))
   pub within : n ≤ length_limit
+
+-- An LF stands behind n bytes, and none in front of it.
+pub record IsEndOfLine (bytes : List ℕ) (n : ℕ) : Type 0 where
+  pub within : n < length bytes
+  pub lf : get_or bytes n 0 ≡ 10
+  pub front : IsTrue (is_one_line (take n bytes))
 
 -- The line at the front was taken, or the input ends.
 abbrev pub TakesLine : Option (List ℕ) → Option (List ℕ) → List ℕ → Result Taken ReadEnd → Type 0

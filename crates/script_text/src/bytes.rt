@@ -1,12 +1,12 @@
 //! The bytes of a file, one by one, of which the file is asked in pieces.
 //!
 //! A piece is a buffer of 4,096 bytes. Those from `start` up to `end` were read and not taken yet.
-ghost use Rattle.std.specs.Prelude.{◌≡◌, ◌<◌, length, [], ◌∷◌, IfOk, OnErr, IsErrOf, MatchOption};
+ghost use Rattle.std.specs.Prelude.{◌≡◌, ◌<◌, length, take, [], ◌∷◌, ◌++◌, IfOk, IfSome, IfNone, OnErr, IsErrOf, MatchOption};
 ghost use Rattle.std.specs.Io.KnownBytes.{prepend_known};
 ghost use Rattle.heap_io.specs.Causes.{HasCause};
 ghost use Rattle.script_text.specs.Mark.{TestsMark, BreaksMark, ReadsBehind};
 ghost use Rattle.script_text.specs.Reading.{HasReadCause};
-ghost use Rattle.script_text.specs.Taking.{Refills, GivesByte, TakesByte};
+ghost use Rattle.script_text.specs.Taking.{Refills, GivesByte, TakesByte, IsLineOf, IsEndOfLine};
 
 use crate::reader::ReadEnd;
 use heap_io::{Failed, Files};
@@ -106,6 +106,25 @@ impl Bytes {
         }
     }
 
+    /// Takes the line at the front with its LF, where the bytes that were read hold it and it has at most 200 bytes. Its bytes
+    /// are put into the front of `line`, and the answer is its length. Else it takes nothing.
+    pub(crate) fn held_line(&mut self, line: &mut [u8; 200]) -> Option<usize>
+        ensures line { IfSome result (λ n. IsLineOf line.new n) }
+        ensures taken { IfSome result (λ n. self.old ≡ take n line.new ++ 10 ∷ self.new) }
+        ensures none { IfNone result (self.new ≡ self.old) }
+    {
+        let held = &self.buf[self.start..self.end];
+        let Some(length) = line_length(held) else {
+            return None;
+        };
+        if length > 200 {
+            return None;
+        }
+        line[..length].copy_from_slice(&held[..length]);
+        self.start += length + 1;
+        Some(length)
+    }
+
     /// Reads a piece, if no byte is left of the last one.
     fn refill<F: Files>(&mut self, files: &mut F) -> Result<(), Failed>
         ensures refills { Refills self.old self.new (F.rest files.old) (F.rest files.new) result }
@@ -151,4 +170,16 @@ fn read_behind<F: Files>(buf: &mut [u8], from: usize, files: &mut F) -> Result<u
     ensures may_begin { F.may_begin files.new ≡ F.may_begin files.old }
 {
     files.read(&mut buf[from..])
+}
+
+/// The number of bytes in front of the first LF.
+fn line_length(bytes: &[u8]) -> Option<usize>
+    ensures { IfSome result (λ n. IsEndOfLine bytes.now n) }
+{
+    for (at, byte) in bytes.iter().enumerate() {
+        if *byte == b'\n' {
+            return Some(at);
+        }
+    }
+    None
 }

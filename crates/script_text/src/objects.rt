@@ -11,7 +11,9 @@ ghost use Rattle.script_text.specs.Words.{words_in};
 use crate::print::print_line;
 use crate::ranges::{item_number, slot_number, type_number};
 use crate::slots::{parse_slot_command, print_slot_command};
-use crate::words::{Words, five_numbers, one_number, take_number, three_numbers, two_numbers};
+use crate::words::{
+    Words, five_numbers, is_keyword, one_number, take_number, three_numbers, two_numbers,
+};
 use std::alloc::AllocError;
 use text_model::{BadLine, Command};
 
@@ -20,19 +22,19 @@ use text_model::{BadLine, Command};
 pub fn parse_command(word: &[u8], words: Words<'_>) -> Result<Command, BadLine>
     ensures { result ≡ command_form word.now (words_in words.entry) }
 {
-    if word == b"new".as_slice() {
+    if is_keyword(word, b"new") {
         parse_new(words)
-    } else if word == b"weak".as_slice() {
+    } else if is_keyword(word, b"weak") {
         parse_weak(words)
-    } else if word == b"put".as_slice() {
+    } else if is_keyword(word, b"put") {
         parse_put(words)
-    } else if word == b"get".as_slice() {
+    } else if is_keyword(word, b"get") {
         parse_get(words)
-    } else if word == b"link".as_slice() {
+    } else if is_keyword(word, b"link") {
         parse_link(words)
-    } else if word == b"load".as_slice() {
+    } else if is_keyword(word, b"load") {
         parse_load(words)
-    } else if word == b"copyrefs".as_slice() {
+    } else if is_keyword(word, b"copyrefs") {
         parse_copy(words)
     } else {
         parse_slot_command(word, words)

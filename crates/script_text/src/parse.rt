@@ -8,7 +8,7 @@ ghost use Rattle.script_text.specs.Words.{words_in, type_of};
 
 use crate::objects::parse_command;
 use crate::ranges::type_number;
-use crate::words::{Words, one_number, split_word, take_end, take_number};
+use crate::words::{Words, is_keyword, one_number, split_word, take_end, take_number};
 use text_model::{BadLine, Item};
 use type_table::{Shape, TypeInfo};
 
@@ -32,9 +32,9 @@ fn parse_form(line: &[u8]) -> Result<Item, BadLine>
     ensures { result ≡ form_of (words_of line.now) }
 {
     let (word, words) = split_word(line);
-    if word == b"set".as_slice() {
+    if is_keyword(word, b"set") {
         parse_setting(words)
-    } else if word == b"type".as_slice() {
+    } else if is_keyword(word, b"type") {
         parse_type(words)
     } else {
         Ok(Item::Command(parse_command(word, words)?))

@@ -164,6 +164,26 @@ fn take_line<F: Files>(
     ensures bytes { F.bytes files.new ≡ F.bytes files.old }
     ensures may_begin { F.may_begin files.new ≡ F.may_begin files.old }
 {
+    match piece.held_line(line) {
+        Some(length) => Ok(Taken::Whole(length)),
+        None => take_bytes(piece, files, line),
+    }
+}
+
+/// Takes the line at the front of the rest byte by byte, with its LF.
+fn take_bytes<F: Files>(
+    piece: &mut Bytes,
+    files: &mut F,
+    line: &mut [u8; 200],
+) -> Result<Taken, ReadEnd>
+    ensures taken { let before = prepend_known piece.old (F.rest files.old) in
+        let after = prepend_known piece.new (F.rest files.new) in
+        TakesLine before after line.new result }
+    ensures fault { IsErrOf result ReadEnd.ReadFault → piece.new ≡ [] }
+    ensures cause { HasReadCause (F.faults files.old) (F.faults files.new) result }
+    ensures bytes { F.bytes files.new ≡ F.bytes files.old }
+    ensures may_begin { F.may_begin files.new ≡ F.may_begin files.old }
+{
     for length in 0..MAX_LENGTH {
         match piece.next_byte(files)? {
             None if length == 0 => return Ok(Taken::Nothing),

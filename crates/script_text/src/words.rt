@@ -1,7 +1,7 @@
 //! The words of a line, each of which a space ends or the end of the line. What is still to be read is the part of the
 //! line behind the last space that was met.
 
-ghost use Rattle.std.specs.Prelude.{◌≡◌, ◌∷◌, codes, ◌^◌};
+ghost use Rattle.std.specs.Prelude.{◌≡◌, ◌∷◌, bytes_eq, codes, ◌^◌};
 ghost use Rattle.text_model.specs.Numbers.{words_of, number_word, no_word, one_number, two_numbers, three_numbers, five_numbers};
 ghost use Rattle.text_model.specs.CommandGrammar.{kind_word};
 ghost use Rattle.script_text.specs.Words.{words_in, Gives};
@@ -27,6 +27,17 @@ pub fn split_word(text: &[u8]) -> (&[u8], Words<'_>)
         }
     }
     (text, Words { rest: None })
+}
+
+/// Whether a word is a keyword. Most words are told by their first byte.
+#[tactic(auto, using(crate::proofs::Separated::other_front))]
+pub fn is_keyword(word: &[u8], keyword: &[u8]) -> bool
+    ensures { result ≡ bytes_eq word.now keyword.now }
+{
+    if !word.is_empty() && !keyword.is_empty() && word[0] != keyword[0] {
+        return false;
+    }
+    word == keyword
 }
 
 /// The number that the first word writes, and the words behind it.

@@ -2,7 +2,7 @@ use Rattle.std.proofs.Common.{◌≡◌, ◌≤◌, take, length}
 use Rattle.std.specs.Prelude.{IsTrue}
 use Rattle.std.specs.Io.KnownBytes.{Consumes, prepend_known}
 use Rattle.script_text.specs.Reader.{is_one_line}
-use Rattle.script_text.proofs.reader.take_line.Given as goal
+use Rattle.script_text.proofs.reader.take_bytes.Given as goal
 
 -- the bytes of the line so far were taken
 abbrev pub invariant-loop-length : goal.invariant-loop-length

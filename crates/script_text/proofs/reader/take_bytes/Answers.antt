@@ -5,7 +5,7 @@ use Rattle.std.proofs.lemmas.Bool.{ne_eqb}
 use Rattle.std.proofs.lemmas.List.{take_more_set, length-set}
 use Rattle.script_text.specs.Reader.{is_one_line}
 use Rattle.script_text.proofs.KnownLines.{is_one_line-push, consumes_then_nothing}
-use Rattle.script_text.proofs.reader.take_line.Goals as goal
+use Rattle.script_text.proofs.reader.take_bytes.Goals as goal
 
 pub returns-in-None-2-clause-taken : goal.returns-in-None-2-clause-taken
 returns-in-None-2-clause-taken g c =
