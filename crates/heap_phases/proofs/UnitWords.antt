@@ -8,7 +8,8 @@ use Rattle.std.proofs.lemmas.List.Sorted.{sum_by-IsPermutation}
 use Rattle.heap_space.specs.Memory.{Memory}
 use Rattle.heap_space.specs.Extents.{Extent, Each}
 use Rattle.heap_space.proofs.ExtentLaws.{Each-map, Each-right}
-use Rattle.size_pages.specs.PageWords.{word_in, PageHolds}
+use Rattle.size_pages.specs.PageWords.{word_in}
+use Rattle.size_pages.specs.PageBlocks.{PageHolds}
 use Rattle.size_pages.specs.LiveBlocks.{page_at, in_page, blocks_of}
 use Rattle.size_pages.specs.HasBlocks as pages
 use Rattle.size_pages.specs.declared.Pages.{Pages}

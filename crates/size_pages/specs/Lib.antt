@@ -1,4 +1,6 @@
 pub mod PageWords
+pub mod PageHeader
+pub mod PageBlocks
 pub mod LiveBlocks
 pub mod PageLists
 pub mod HasBlocks

@@ -5,7 +5,8 @@ use Rattle.heap_space.specs.Memory.{Memory}
 use Rattle.heap_space.specs.Extents.{Extent, Each, IsInside, KeepsWords}
 use Rattle.object_header.specs.Words.{has_flag, without_flag}
 use Rattle.object_header.specs.declared.flags.Flag.TheVariants.{Free, Visited}
-use Rattle.size_pages.specs.PageWords.{Words, word_in, CanStore, IsInArenas, IsStored, GivesBack}
+use Rattle.size_pages.specs.PageWords.{Words, word_in, CanStore, IsInArenas, IsStored}
+use Rattle.size_pages.specs.PageBlocks.{GivesBack}
 use Rattle.size_pages.specs.HasBlocks.{HasBlocks, KeepsSizes}
 use Rattle.size_pages.specs.Steps.{CanPut}
 use Rattle.size_pages.specs.Headers.{HasHeaders}

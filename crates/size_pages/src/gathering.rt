@@ -5,8 +5,7 @@ ghost use Rattle.size_pages.specs.Growth.{IsOnlyOrder};
 ghost use Rattle.size_pages.specs.Calls.{NoneWaits};
 ghost use Rattle.size_pages.specs.Gathering.{IsListFrom, CanGather, IsOrder};
 
-use crate::Pages;
-use crate::words::load;
+use crate::{Pages, header};
 use heap_space::Space;
 
 /// Appends the pages of the list that begins at `first`. There is room for them.
@@ -18,7 +17,7 @@ fn gather_list(order: &mut Vec<u64>, space: &Space, first: u64)
     let mut page = first;
     while page != 0 {
         order.push_reserved(page);
-        page = load(space, page + 4);
+        page = header::next(space, page);
     }
 }
 

@@ -3,14 +3,14 @@
 ghost use Rattle.std.specs.Prelude.{◌≡◌, ℕ, ◌+◌, ◌*◌, ◌^◌, ◌<◌, ◌≤◌, List, length, vec_capacity, IfOk, OnOk, OnErr};
 ghost use Rattle.heap_space.specs.Memory.{Memory};
 ghost use Rattle.heap_space.specs.Extents.{Extent};
-ghost use Rattle.size_pages.specs.PageWords.{word_in, Starts, IsInArenas};
+ghost use Rattle.size_pages.specs.PageWords.{word_in, IsInArenas};
+ghost use Rattle.size_pages.specs.PageBlocks.{Starts};
 ghost use Rattle.size_pages.specs.LiveBlocks.{page_at};
 ghost use Rattle.size_pages.specs.HasBlocks.{HasBlocks, Stands};
 ghost use Rattle.size_pages.specs.Growth.{FindsUnused, MakesUnused, IsOnlyOrder, AddsPages, KeepsBlocks, CanBegin, BeginsPage};
 
 use crate::blocks::start_class;
-use crate::words::load;
-use crate::{ARENAS, Pages};
+use crate::{ARENAS, Pages, header};
 use heap_space::Space;
 use std::alloc::AllocError;
 
@@ -64,7 +64,7 @@ impl Pages {
         ensures { FindsUnused self.old self.new space.now }
     {
         let mut number = self.lowest;
-        while number < self.count && load(space, ARENAS + number * self.page) != 0 {
+        while number < self.count && header::class(space, ARENAS + number * self.page) != 0 {
             number += 1;
         }
         self.lowest = number;

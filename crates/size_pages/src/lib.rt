@@ -16,6 +16,7 @@ ghost use Rattle.size_pages.specs.Calls.{page_of, IsInNone, TakesFrom, TakesFirs
 mod blocks;
 mod gathering;
 mod growth;
+mod header;
 mod links;
 mod listing;
 mod moves;

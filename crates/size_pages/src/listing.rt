@@ -5,6 +5,7 @@ ghost use Rattle.heap_space.specs.Extents.{Extent};
 ghost use Rattle.size_pages.specs.Headers.{HasHeaders, StandsWithHeaders, AppendsLive, HoldsMore};
 ghost use Rattle.size_pages.specs.Listing.{CanListBlocks, ListsBlocks};
 
+use crate::header::{self, HEADER};
 use crate::words::load;
 use crate::{ARENAS, Pages};
 use heap_space::Space;
@@ -38,13 +39,13 @@ impl Pages {
         ensures listed { OnOk result (ListsBlocks self.now space.now page out.old.items out.new.items) }
         ensures more { HoldsMore out.old.items out.new.items }
     {
-        let class = load(space, page);
+        let class = header::class(space, page);
         if class == 0 {
             return Ok(());
         }
-        let count = (load(space, page + 3) - (page + 8)) / class;
+        let count = (header::first_fresh(space, page) - (page + HEADER)) / class;
         for slot in 0..count {
-            let block = page + 8 + slot * class;
+            let block = page + HEADER + slot * class;
             if !is_set(load(space, block), Flag::Free) {
                 out.push((block, class))?;
             }

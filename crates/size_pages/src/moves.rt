@@ -3,6 +3,7 @@
 ghost use Rattle.std.specs.Prelude.{◌≡◌, ◌≢◌, ℕ, ◌+◌, ◌-◌, ◌*◌, ◌/◌, ◌<◌, ◌≤◌, List, ◌∷◌, length, slice_index, IfOk, OnErr};
 ghost use Rattle.heap_space.specs.Extents.{Extent, KeepsWords};
 ghost use Rattle.size_pages.specs.PageWords.{word_in, IsInArenas};
+ghost use Rattle.size_pages.specs.PageHeader.{blocks_at};
 ghost use Rattle.size_pages.specs.PageLists.{IsPage, SameSigns, Unlinks, Links};
 ghost use Rattle.size_pages.specs.HasBlocks.{HasBlocks, HasBlocksBut, Stands, IsLive};
 ghost use Rattle.size_pages.specs.Steps.{TakesNext, IsOnlyHeads, CanTakeOff, CanPutOn, CanEnd, CanGiveFull, CanTakeUnlisted, StaysOpen};
@@ -14,8 +15,7 @@ use crate::blocks::{
     FULL, ROOM, WAITING, clear_page, keeps_room, kind_of, put_on_chain, take_from,
 };
 use crate::links::{link, unlink};
-use crate::words::load;
-use crate::{ARENAS, Pages};
+use crate::{ARENAS, Pages, header};
 use heap_space::Space;
 use std::alloc::AllocError;
 
@@ -58,7 +58,7 @@ impl Pages {
         ensures taken { (live : List Extent) (waiting : List ℕ) → HasBlocksBut self.old space.old live waiting page → HasBlocksBut self.new space.new ((result, n) ∷ live) waiting 0 }
         ensures kept { (live : List Extent) (waiting : List ℕ) → HasBlocksBut self.old space.old live waiting page → KeepsWords space.old space.new live }
         ensures cleared { word_in space.new result ≡ 0 }
-        ensures place { (page + 8 ≤ result) × (result + n ≤ page + self.old.page) }
+        ensures place { (blocks_at page ≤ result) × (result + n ≤ page + self.old.page) }
         ensures page { page ≡ page_of self.old.page result }
         ensures next { TakesNext (word_in space.old) page result }
         ensures heads { IsOnlyHeads self.old self.new }
@@ -130,8 +130,8 @@ impl Pages {
         requires page { page ≡ page_of self.old.page a }
         ensures { GivesBlock self.old self.new space.old space.new page a n }
     {
-        let kind = load(space, page + 6);
-        let live = load(space, page + 2);
+        let kind = header::kind(space, page);
+        let live = header::live_count(space, page);
         if kind == WAITING {
             put_on_chain(space, page, a);
             return;

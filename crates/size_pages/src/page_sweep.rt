@@ -2,7 +2,8 @@
 
 ghost use Rattle.std.specs.Prelude.{◌≡◌, ℕ, ◌+◌, ◌-◌, ◌/◌, ◌<◌, ◌≤◌, ◌∷◌, List, OnOk, OnErr};
 ghost use Rattle.heap_space.specs.Extents.{Extent};
-ghost use Rattle.size_pages.specs.PageWords.{word_in, HasAll, IsInArenas};
+ghost use Rattle.size_pages.specs.PageWords.{word_in, IsInArenas};
+ghost use Rattle.size_pages.specs.PageHeader.{first_fresh, HasPageHeader, blocks_at};
 ghost use Rattle.size_pages.specs.HasBlocks.{page_size, HasBlocks, HasBlocksBut, Stands, KeepsSizes};
 ghost use Rattle.size_pages.specs.PageLists.{SameSigns, Unlinks};
 ghost use Rattle.size_pages.specs.Headers.{HasHeaders};
@@ -12,6 +13,7 @@ ghost use Rattle.size_pages.specs.SlotSteps.{CanSweepAt, CanSweepSlot, GathersBi
 
 use crate::Pages;
 use crate::blocks::{clear_page, kind_of, put_on_chain};
+use crate::header::{self, HEADER};
 use crate::links::unlink;
 use crate::words::{load, store};
 use heap_space::Space;
@@ -27,12 +29,12 @@ fn is_dead(word: u64) -> bool
 
 /// How many blocks of the page were handed out ever.
 fn slots(space: &Space, page: u64, class: u64) -> u64
-    requires header { HasAll space.now page (page + 8) }
+    requires header { HasPageHeader space.now page }
     requires class { 0 < class }
-    requires fresh { page + 8 ≤ word_in space.now (page + 3) }
-    ensures { result ≡ (word_in space.now (page + 3) - (page + 8)) / class }
+    requires fresh { blocks_at page ≤ first_fresh (word_in space.now) page }
+    ensures { result ≡ (first_fresh (word_in space.now) page - blocks_at page) / class }
 {
-    (load(space, page + 3) - (page + 8)) / class
+    (header::first_fresh(space, page) - (page + HEADER)) / class
 }
 
 impl Pages {
@@ -84,10 +86,10 @@ impl Pages {
         ensures gathered { OnOk result (GathersBirths self.now space.now page freed.old.items freed.new.items) }
         ensures more { HoldsNumbers freed.old.items freed.new.items }
     {
-        let class = load(space, page);
+        let class = header::class(space, page);
         let count = slots(space, page, class);
         for slot in 0..count {
-            let block = page + 8 + slot * class;
+            let block = page + HEADER + slot * class;
             let word = load(space, block);
             if !is_set(word, Flag::Free) && is_dead(word) {
                 freed.push(load(space, block + 1))?;
@@ -102,10 +104,10 @@ impl Pages {
         requires { CanSweepAt self.now space.old page }
         ensures { SweepsBlocks self.now space.old space.new page }
     {
-        let class = load(space, page);
+        let class = header::class(space, page);
         let count = slots(space, page, class);
         for slot in 0..count {
-            sweep_slot(space, page, page + 8 + slot * class);
+            sweep_slot(space, page, page + HEADER + slot * class);
         }
     }
 
@@ -115,12 +117,12 @@ impl Pages {
         ensures { Relists self.old self.new space.old space.new page }
     {
         self.take_off_first(space, page);
-        if load(space, page + 2) == 0 {
+        if header::live_count(space, page) == 0 {
             self.lower(page);
             clear_page(space, page);
             return;
         }
-        let class = load(space, page);
+        let class = header::class(space, page);
         let kind = kind_of(space, page, class, page + self.page);
         self.put_on(space, page, (2 * class + (kind - 1)) as usize, kind);
     }

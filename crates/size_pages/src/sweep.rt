@@ -8,10 +8,9 @@ ghost use Rattle.size_pages.specs.HasBlocks.{HasBlocks, HasBlocksBut, Stands, Ke
 ghost use Rattle.size_pages.specs.Calls.{page_of, BeginsLive, NoneWaits, BeginsSweep};
 ghost use Rattle.size_pages.specs.SweepSteps.{CanWait, CanPutWaiting, WaitsMore};
 
-use crate::Pages;
 use crate::blocks::WAITING;
 use crate::links::link;
-use crate::words::load;
+use crate::{Pages, header};
 use heap_space::Space;
 
 impl Pages {
@@ -20,7 +19,7 @@ impl Pages {
         requires { BeginsLive self.now space.now a }
         ensures { (live : List Extent) (waiting : List ℕ) → HasBlocks self.now space.now live waiting → IsTrue result ↔ IsIn (page_of (page_size self.now) a) waiting }
     {
-        load(space, self.page_of(a) + 6) == WAITING
+        header::kind(space, self.page_of(a)) == WAITING
     }
 
     /// Every page in use waits from then on. It does not allocate, and looks at no unused page.
@@ -43,8 +42,8 @@ impl Pages {
         requires { CanWait self.old space.old page }
         ensures { WaitsMore self.old self.new space.old space.new page }
     {
-        let class = load(space, page);
-        let kind = load(space, page + 6);
+        let class = header::class(space, page);
+        let kind = header::kind(space, page);
         self.take_off(space, page, (2 * class + (kind - 1)) as usize);
         self.put_waiting(space, page);
     }
