@@ -1,5 +1,6 @@
 pub mod PageWords
 pub mod PageHeader
+pub mod Kinds
 pub mod PageBlocks
 pub mod LiveBlocks
 pub mod PageLists

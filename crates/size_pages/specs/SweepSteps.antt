@@ -1,5 +1,5 @@
 -- What the steps of a sweep ask, and what they change.
-use Rattle.std.specs.Prelude.{◌≡◌, ◌≢◌, ℕ, ◌+◌, ◌^◌, ◌<◌, ◌≤◌, List, ◌∷◌, length}
+use Rattle.std.specs.Prelude.{◌≡◌, ◌≢◌, ℕ, ◌^◌, ◌<◌, ◌≤◌, List, ◌∷◌, length}
 use Rattle.heap_space.specs.Memory.{Memory}
 use Rattle.heap_space.specs.Extents.{Extent, KeepsWords}
 use Rattle.size_pages.specs.PageWords.{word_in, IsInArenas}

@@ -4,21 +4,15 @@ ghost use Rattle.std.specs.Prelude.{◌≡◌, ◌≢◌, ℕ, ◌+◌, ◌<◌,
 ghost use Rattle.size_pages.specs.PageWords.{word_in, CanStore, IsInArenas};
 ghost use Rattle.size_pages.specs.PageHeader.{first_free, first_fresh, HasPageHeader};
 ghost use Rattle.size_pages.specs.PageBlocks.{TakesChained, TakesFresh, GivesBack, Clears, Starts};
+ghost use Rattle.size_pages.specs.Kinds.{kind_number};
+ghost use Rattle.size_pages.specs.declared.kinds.PageKind.TheVariants.{Room, Full};
 ghost use Rattle.size_pages.specs.Steps.{CanTake, CanPut, KeepsRoom};
 
 use crate::header::{self, HEADER};
+use crate::kinds::PageKind;
 use crate::words::store;
 use heap_space::Space;
 use object_header::Flag;
-
-/// The list that word 6 of a page's header names: none, for an unused page.
-pub const UNUSED: u64 = 0;
-
-pub const ROOM: u64 = 1;
-
-pub const FULL: u64 = 2;
-
-pub const WAITING: u64 = 3;
 
 /// Hands out the first block of the page's chain.
 fn take_chained(space: &mut Space, page: u64, n: u64) -> u64
@@ -64,21 +58,21 @@ pub fn take_from(space: &mut Space, page: u64, n: u64) -> u64
     take_fresh(space, page, n)
 }
 
-/// The list for a page with live blocks of n words that ends at `end`: with room, or full.
-pub fn kind_of(space: &Space, page: u64, n: u64, end: u64) -> u64
+/// What a page with live blocks of n words that ends at `end` is: one with room, or a full one.
+pub fn right_kind(space: &Space, page: u64, n: u64, end: u64) -> PageKind
     requires header { HasPageHeader space.now page }
     requires fresh { first_fresh (word_in space.now) page + n < 2 ^ 63 }
-    ensures known { (result ≡ 1) ⊎ (result ≡ 2) }
-    ensures room { result ≡ 1 → (first_free (word_in space.now) page ≢ 0) ⊎ (first_fresh (word_in space.now) page + n ≤ end) }
-    ensures full { result ≡ 2 → (first_free (word_in space.now) page ≡ 0) × (end < first_fresh (word_in space.now) page + n) }
+    ensures known { (kind_number result ≡ kind_number Room) ⊎ (kind_number result ≡ kind_number Full) }
+    ensures room { kind_number result ≡ kind_number Room → (first_free (word_in space.now) page ≢ 0) ⊎ (first_fresh (word_in space.now) page + n ≤ end) }
+    ensures full { kind_number result ≡ kind_number Full → (first_free (word_in space.now) page ≡ 0) × (end < first_fresh (word_in space.now) page + n) }
 {
     if header::first_free(space, page) != 0 {
-        return ROOM;
+        return PageKind::Room;
     }
     if header::first_fresh(space, page) + n <= end {
-        return ROOM;
+        return PageKind::Room;
     }
-    FULL
+    PageKind::Full
 }
 
 /// Whether the page of blocks of n words, which has room and ends at `end`, has some for a second
@@ -122,7 +116,7 @@ pub fn clear_page(space: &mut Space, page: u64)
     header::set_first_free(space, page, 0);
     header::set_live_count(space, page, 0);
     header::set_first_fresh(space, page, 0);
-    header::set_kind(space, page, UNUSED);
+    header::set_kind(space, page, PageKind::Unused);
 }
 
 /// Makes the page, which has no block, one of n words.

@@ -5,6 +5,7 @@ ghost use Rattle.size_pages.specs.Growth.{IsOnlyOrder};
 ghost use Rattle.size_pages.specs.Calls.{NoneWaits};
 ghost use Rattle.size_pages.specs.Gathering.{IsListFrom, CanGather, IsOrder};
 
+use crate::kinds::CLASS_LISTS;
 use crate::{Pages, header};
 use heap_space::Space;
 
@@ -29,7 +30,7 @@ impl Pages {
         ensures order { IsOnlyOrder self.old self.new }
     {
         self.order.clear();
-        for list in 2..self.heads.len() {
+        for list in CLASS_LISTS..self.heads.len() {
             gather_list(&mut self.order, space, self.heads[list]);
         }
         self.order.sort_unstable();

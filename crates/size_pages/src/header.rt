@@ -4,8 +4,10 @@
 ghost use Rattle.std.specs.Prelude.{◌≡◌, ℕ};
 ghost use Rattle.size_pages.specs.PageWords.{word_in, IsStored, CanStore, IsInArenas};
 ghost use Rattle.size_pages.specs.PageHeader.{class_of, first_free, live_count, first_fresh, next_of, previous_of, kind_of, next_free};
+ghost use Rattle.size_pages.specs.Kinds.{kind_number, HasKind};
 ghost use Rattle.size_pages.specs.PageHeader.{first_free_at, live_count_at, first_fresh_at, next_at, previous_at, kind_at, link_at};
 
+use crate::kinds::PageKind;
 use crate::words::{load, store};
 use heap_space::Space;
 
@@ -60,12 +62,12 @@ pub fn previous(space: &Space, page: u64) -> u64
     load(space, page + 5)
 }
 
-/// The number of its kind.
-pub fn kind(space: &Space, page: u64) -> u64
-    requires { CanStore space.now (kind_at page) }
-    ensures { result ≡ kind_of (word_in space.now) page }
+/// What the page is.
+pub fn kind(space: &Space, page: u64) -> PageKind
+    requires { HasKind space.now page }
+    ensures { kind_number result ≡ kind_of (word_in space.now) page }
 {
-    load(space, page + 6)
+    PageKind::of_number(load(space, page + 6))
 }
 
 /// The free block behind this one on the chain of its page, or 0.
@@ -137,13 +139,13 @@ pub fn set_previous(space: &mut Space, page: u64, before: u64)
 }
 
 /// Writes what `kind` reads.
-pub fn set_kind(space: &mut Space, page: u64, kind: u64)
+pub fn set_kind(space: &mut Space, page: u64, kind: PageKind)
     requires { CanStore space.old (kind_at page) }
-    ensures word { IsStored (word_in space.old) (word_in space.new) (kind_at page) kind }
+    ensures word { IsStored (word_in space.old) (word_in space.new) (kind_at page) (kind_number kind) }
     ensures arenas { IsInArenas space.old space.new }
     ensures still { (b : ℕ) → CanStore space.old b → CanStore space.new b }
 {
-    store(space, page + 6, kind);
+    store(space, page + 6, kind.number());
 }
 
 /// Writes what `next_free` reads.

@@ -17,6 +17,7 @@ mod blocks;
 mod gathering;
 mod growth;
 mod header;
+mod kinds;
 mod links;
 mod listing;
 mod moves;

@@ -4,11 +4,21 @@
 ghost use Rattle.std.specs.Prelude.{◌≡◌, ◌≢◌, ℕ, ◌+◌, ◌<◌, slice_index, vec_len};
 ghost use Rattle.size_pages.specs.PageWords.{word_in, CanStore, IsInArenas};
 ghost use Rattle.size_pages.specs.PageHeader.{next_of, previous_of, next_at, previous_at};
+ghost use Rattle.size_pages.specs.Kinds.{kind_number};
 ghost use Rattle.size_pages.specs.PageLists.{Unlinks, Links};
 ghost use Rattle.size_pages.specs.Steps.{CanUnlink, CanLink};
 
 use crate::header;
+use crate::kinds::PageKind;
 use heap_space::Space;
+
+/// The first page of the list, or 0.
+pub fn first(heads: &Vec<u64>, list: usize) -> u64
+    requires { list < vec_len heads.now }
+    ensures { result ≡ slice_index heads.now.items list }
+{
+    heads[list]
+}
 
 /// Makes `next` follow `before`, or come first where there is none.
 fn link_forth(heads: &mut Vec<u64>, space: &mut Space, list: usize, before: u64, next: u64)
@@ -56,12 +66,12 @@ pub fn unlink(heads: &mut Vec<u64>, space: &mut Space, page: u64, list: usize)
 }
 
 /// Puts the page in front of the list.
-pub fn link(heads: &mut Vec<u64>, space: &mut Space, page: u64, list: usize, kind: u64)
+pub fn link(heads: &mut Vec<u64>, space: &mut Space, page: u64, list: usize, kind: PageKind)
     requires { CanLink space.old heads.old.items page list }
-    ensures links { Links (word_in space.old) (word_in space.new) heads.old.items heads.new.items page list kind }
+    ensures links { Links (word_in space.old) (word_in space.new) heads.old.items heads.new.items page list (kind_number kind) }
     ensures arenas { IsInArenas space.old space.new }
 {
-    let next = heads[list];
+    let next = first(heads, list);
     header::set_next(space, page, next);
     header::set_previous(space, page, 0);
     header::set_kind(space, page, kind);

@@ -6,15 +6,15 @@ ghost use Rattle.size_pages.specs.PageWords.{word_in, IsInArenas};
 ghost use Rattle.size_pages.specs.PageHeader.{blocks_at};
 ghost use Rattle.size_pages.specs.PageLists.{IsPage, SameSigns, Unlinks, Links};
 ghost use Rattle.size_pages.specs.HasBlocks.{HasBlocks, HasBlocksBut, Stands, IsLive};
+ghost use Rattle.size_pages.specs.Kinds.{kind_number};
 ghost use Rattle.size_pages.specs.Steps.{TakesNext, IsOnlyHeads, CanTakeOff, CanPutOn, CanEnd, CanGiveFull, CanTakeUnlisted, StaysOpen};
 ghost use Rattle.size_pages.specs.Growth.{IsLowered, KeepsBlocks};
 ghost use Rattle.size_pages.specs.Calls.{page_of};
 ghost use Rattle.size_pages.specs.Moves.{FindsPage, TakesListed, GivesBlock};
 
-use crate::blocks::{
-    FULL, ROOM, WAITING, clear_page, keeps_room, kind_of, put_on_chain, take_from,
-};
-use crate::links::{link, unlink};
+use crate::blocks::{clear_page, keeps_room, put_on_chain, right_kind, take_from};
+use crate::kinds::PageKind;
+use crate::links::{first, link, unlink};
 use crate::{ARENAS, Pages, header};
 use heap_space::Space;
 use std::alloc::AllocError;
@@ -42,10 +42,10 @@ impl Pages {
     }
 
     /// Puts the page in front of the list, which is not that of the waiting pages.
-    pub(crate) fn put_on(&mut self, space: &mut Space, page: u64, list: usize, kind: u64)
-        requires { CanPutOn self.old space.old page list kind }
+    pub(crate) fn put_on(&mut self, space: &mut Space, page: u64, list: usize, kind: PageKind)
+        requires { CanPutOn self.old space.old page list (kind_number kind) }
         ensures on { (live : List Extent) (waiting : List ℕ) → HasBlocksBut self.old space.old live waiting page → HasBlocksBut self.new space.new live waiting 0 }
-        ensures links { Links (word_in space.old) (word_in space.new) self.old.heads.items self.new.heads.items page list kind }
+        ensures links { Links (word_in space.old) (word_in space.new) self.old.heads.items self.new.heads.items page list (kind_number kind) }
         ensures heads { IsOnlyHeads self.old self.new }
         ensures arenas { IsInArenas space.old space.new }
     {
@@ -65,8 +65,8 @@ impl Pages {
         ensures arenas { IsInArenas space.old space.new }
     {
         let block = take_from(space, page, n);
-        let kind = kind_of(space, page, n, page + self.page);
-        self.put_on(space, page, (2 * n + (kind - 1)) as usize, kind);
+        let kind = right_kind(space, page, n, page + self.page);
+        self.put_on(space, page, kind.list(n), kind);
         block
     }
 
@@ -87,7 +87,8 @@ impl Pages {
         requires heads { 2 * self.now.small + 2 ≤ length self.now.heads.items }
         ensures { result ≢ 0 → StaysOpen self.now space.now result n }
     {
-        let page = self.heads[(2 * n) as usize];
+        let list = PageKind::Room.list(n);
+        let page = first(&self.heads, list);
         if page == 0 {
             return 0;
         }
@@ -115,11 +116,12 @@ impl Pages {
         ensures err { OnErr result (space.new ≡ space.old) }
         ensures err_blocks { OnErr result (KeepsBlocks self.old self.new space.old) }
     {
-        let page = self.heads[(2 * n) as usize];
+        let list = PageKind::Room.list(n);
+        let page = first(&self.heads, list);
         if page == 0 {
             return self.start_page(space, n);
         }
-        self.take_off(space, page, (2 * n) as usize);
+        self.take_off(space, page, list);
         Ok(page)
     }
 
@@ -132,15 +134,16 @@ impl Pages {
     {
         let kind = header::kind(space, page);
         let live = header::live_count(space, page);
-        if kind == WAITING {
+        let waits = kind.is_waiting();
+        if waits {
             put_on_chain(space, page, a);
             return;
         }
         if live == 1 {
-            self.end_page(space, page, a, n, (2 * n + (kind - 1)) as usize);
+            self.end_page(space, page, a, n, kind.list(n));
             return;
         }
-        if kind == FULL {
+        if kind.is_full() {
             self.give_back_full(space, page, a, n);
             return;
         }
@@ -162,8 +165,8 @@ impl Pages {
         requires { CanGiveFull self.old space.old page a n }
         ensures { GivesBlock self.old self.new space.old space.new page a n }
     {
-        self.take_off(space, page, (2 * n + 1) as usize);
+        self.take_off(space, page, PageKind::Full.list(n));
         put_on_chain(space, page, a);
-        self.put_on(space, page, (2 * n) as usize, ROOM);
+        self.put_on(space, page, PageKind::Room.list(n), PageKind::Room);
     }
 }

@@ -12,9 +12,10 @@ ghost use Rattle.size_pages.specs.Sweeping.{CanSweep, SweepsPage, is_dead};
 ghost use Rattle.size_pages.specs.SlotSteps.{CanSweepAt, CanSweepSlot, GathersBirths, HoldsNumbers, SweepsBlocks, SweepsSlot, CanRelist, Relists};
 
 use crate::Pages;
-use crate::blocks::{clear_page, kind_of, put_on_chain};
+use crate::blocks::{clear_page, put_on_chain, right_kind};
 use crate::header::{self, HEADER};
-use crate::links::unlink;
+use crate::kinds::WAITING_LIST;
+use crate::links::{first, unlink};
 use crate::words::{load, store};
 use heap_space::Space;
 use object_header::{Flag, clear, is_set};
@@ -54,7 +55,7 @@ impl Pages {
         ensures stands { Stands self.new space.new }
         ensures sizes { KeepsSizes self.old self.new }
     {
-        let page = self.heads[1];
+        let page = first(&self.heads, WAITING_LIST);
         self.gather(space, page, freed)?;
         self.sweep_blocks(space, page);
         self.relist(space, page);
@@ -123,8 +124,8 @@ impl Pages {
             return;
         }
         let class = header::class(space, page);
-        let kind = kind_of(space, page, class, page + self.page);
-        self.put_on(space, page, (2 * class + (kind - 1)) as usize, kind);
+        let kind = right_kind(space, page, class, page + self.page);
+        self.put_on(space, page, kind.list(class), kind);
     }
 
     /// Takes the first waiting page off its list.
@@ -136,7 +137,7 @@ impl Pages {
         ensures lists { IsOnlyLists self.old self.new }
         ensures arenas { IsInArenas space.old space.new }
     {
-        unlink(&mut self.heads, space, page, 1);
+        unlink(&mut self.heads, space, page, WAITING_LIST);
         self.waiting -= 1;
     }
 }

@@ -8,7 +8,7 @@ ghost use Rattle.size_pages.specs.HasBlocks.{HasBlocks, HasBlocksBut, Stands, Ke
 ghost use Rattle.size_pages.specs.Calls.{page_of, BeginsLive, NoneWaits, BeginsSweep};
 ghost use Rattle.size_pages.specs.SweepSteps.{CanWait, CanPutWaiting, WaitsMore};
 
-use crate::blocks::WAITING;
+use crate::kinds::{PageKind, WAITING_LIST};
 use crate::links::link;
 use crate::{Pages, header};
 use heap_space::Space;
@@ -19,7 +19,7 @@ impl Pages {
         requires { BeginsLive self.now space.now a }
         ensures { (live : List Extent) (waiting : List ℕ) → HasBlocks self.now space.now live waiting → IsTrue result ↔ IsIn (page_of (page_size self.now) a) waiting }
     {
-        header::kind(space, self.page_of(a)) == WAITING
+        header::kind(space, self.page_of(a)).is_waiting()
     }
 
     /// Every page in use waits from then on. It does not allocate, and looks at no unused page.
@@ -44,7 +44,7 @@ impl Pages {
     {
         let class = header::class(space, page);
         let kind = header::kind(space, page);
-        self.take_off(space, page, (2 * class + (kind - 1)) as usize);
+        self.take_off(space, page, kind.list(class));
         self.put_waiting(space, page);
     }
 
@@ -58,7 +58,13 @@ impl Pages {
         ensures order { self.new.order ≡ self.old.order }
         ensures arenas { IsInArenas space.old space.new }
     {
-        link(&mut self.heads, space, page, 1, WAITING);
+        link(
+            &mut self.heads,
+            space,
+            page,
+            WAITING_LIST,
+            PageKind::Waiting,
+        );
         self.waiting += 1;
     }
 }
