@@ -3,6 +3,8 @@ use Rattle.std.specs.Prelude.{◌≡◌, ◌≢◌, ℕ, ◌+◌, ◌-◌, ◌/�
 use Rattle.heap_space.specs.Memory.{Memory}
 use Rattle.size_pages.specs.PageWords.{Words}
 use Rattle.size_pages.specs.PageHeader.{class_of, first_free, first_fresh, kind_of, next_at, previous_at, blocks_at}
+use Rattle.size_pages.specs.Kinds.{kind_number}
+use Rattle.size_pages.specs.declared.kinds.PageKind.TheVariants.{Waiting}
 use Rattle.heap_space.specs.Extents.{Extent, Each}
 use Rattle.size_pages.specs.LiveBlocks.{page_at, blocks_of}
 use Rattle.size_pages.specs.HasBlocks.{HasBlocks, IsLive}
@@ -21,10 +23,11 @@ IsInNone size pages a = EachPlace (λ p. (a < p) ⊎ (p + size ≤ a)) pages
 -- no page of the class n has room, but for waiting ones
 abbrev pub NoneHasRoom : Words → ℕ → ℕ → ℕ → Type 0
 NoneHasRoom w size count n =
-    (k : ℕ) → k < count → class_of w (page_at size k) ≡ n → kind_of w (page_at size k) ≢ 3 → ¬ HasRoom w size (page_at size k)
+    (k : ℕ) → k < count → class_of w (page_at size k) ≡ n → kind_of w (page_at size k) ≢ kind_number Waiting
+    → ¬ HasRoom w size (page_at size k)
 
--- the block comes from a page of its class, or from the lowest unused one, where none of its class has room; that may be
--- the first of an arena to come, of which no word is written yet
+-- the block comes from a page of its class, or from the lowest unused one, where none of its class has room; that
+-- may be the first of an arena to come, of which no word is written yet
 pub record TakesFrom (w : Words) (size count n p : ℕ) : Type 0 where
   pub class : (class_of w p ≡ n) ⊎ (class_of w p ≡ 0)
   pub full : class_of w p ≡ 0 → NoneHasRoom w size count n

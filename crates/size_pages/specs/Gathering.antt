@@ -30,4 +30,5 @@ pub record IsUsed (pages : Pages) (m : Memory) (page : ℕ) : Type 0 where
 pub record IsOrder (pages : Pages) (m : Memory) (order : List ℕ) : Type 0 where
   pub rising : IsRising order
   pub used : EachPlace (IsUsed pages m) order
-  pub every : (k : ℕ) → k < pages.count → class_of (word_in m) (page_at pages.page k) ≢ 0 → IsIn (page_at pages.page k) order
+  pub every : (k : ℕ) → k < pages.count → class_of (word_in m) (page_at pages.page k) ≢ 0
+      → IsIn (page_at pages.page k) order

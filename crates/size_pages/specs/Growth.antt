@@ -84,7 +84,8 @@ pub record CanBegin (pages : Pages) (m : Memory) (n : ℕ) : Type 0 where
 pub record BeginsPage (old new : Pages) (m after : Memory) (page n : ℕ) : Type 0 where
   pub sizes : KeepsSizes old new
   pub can : CanTakeUnlisted new after page n
-  pub started : (live : List Extent) (waiting : List ℕ) → HasBlocks old m live waiting → HasBlocksBut new after live waiting page
+  pub started : (live : List Extent) (waiting : List ℕ) → HasBlocks old m live waiting
+      → HasBlocksBut new after live waiting page
   pub kept : (live : List Extent) (waiting : List ℕ) → HasBlocks old m live waiting → KeepsWords m after live
   pub unused : class_of (word_in m) page ≡ 0
   pub lower : (k : ℕ) → page_at old.page k < page → class_of (word_in m) (page_at old.page k) ≢ 0

@@ -22,4 +22,4 @@ list_index Waiting class = 1
 
 -- the header of the page at p names a kind
 abbrev pub HasKind : Memory → ℕ → Type 0
-HasKind m p = CanStore m (kind_at p) × (kind_of (word_in m) p ≤ 3)
+HasKind m p = CanStore m (kind_at p) × (kind_of (word_in m) p ≤ kind_number Waiting)

@@ -2,7 +2,9 @@
 use Rattle.std.specs.Prelude.{◌≡◌, ◌≢◌, ℕ, ◌+◌, ◌*◌, ◌<◌, ◌≤◌, ◌⊎◌, List, [], ◌∷◌, ◌++◌, length}
 use Rattle.heap_space.specs.Extents.{Extent, Each, AreApart}
 use Rattle.size_pages.specs.PageWords.{Words}
-use Rattle.size_pages.specs.PageHeader.{first_free_at, live_count_at, first_fresh_at, kind_at, blocks_at, link_at, class_of, first_free, live_count, first_fresh, kind_of, next_free}
+use Rattle.size_pages.specs.PageHeader.{first_free_at, live_count_at, first_fresh_at, kind_at, blocks_at}
+use Rattle.size_pages.specs.PageHeader.{link_at, class_of, first_free, live_count, first_fresh, kind_of}
+use Rattle.size_pages.specs.PageHeader.{next_free}
 
 -- the free blocks of n words from p on: word 0 of each is the flag Free alone, and word 1 the place of the next
 abbrev pub Chain : Words → ℕ → ℕ → List Extent → Type 0
@@ -29,7 +31,8 @@ pub record PageHolds (w : Words) (size : ℕ) (p : ℕ) (free : List Extent) (li
   pub apart : AreApart (free ++ live)
   -- below its first fresh word each block is free or live
   pub all : (length free + length live) * class_of w p + blocks_at p ≡ first_fresh w p
-  pub filled : (i : ℕ) → blocks_at p + i * class_of w p < first_fresh w p → BeginsAt (blocks_at p + i * class_of w p) (free ++ live)
+  pub filled : (i : ℕ) → blocks_at p + i * class_of w p < first_fresh w p
+      → BeginsAt (blocks_at p + i * class_of w p) (free ++ live)
 
 -- all words but those at these four places stay
 abbrev pub SameBut : Words → Words → ℕ → ℕ → ℕ → ℕ → Type 0

@@ -1,7 +1,11 @@
 -- The lists of pages, linked both ways through the words of their headers.
-use Rattle.std.specs.Prelude.{◌≡◌, ◌≢◌, ℕ, ◌+◌, ◌*◌, ◌-◌, ◌<◌, ◌≤◌, ◌⊎◌, ◌==◌, List, [], ◌∷◌, length, slice_index, if◌then◌else◌}
+use Rattle.std.specs.Prelude.{◌≡◌, ◌≢◌, ℕ, ◌+◌, ◌*◌, ◌-◌, ◌<◌, ◌≤◌, ◌⊎◌, ◌==◌, List, [], ◌∷◌, length}
+use Rattle.std.specs.Prelude.{slice_index, if◌then◌else◌}
 use Rattle.size_pages.specs.PageWords.{Words}
-use Rattle.size_pages.specs.PageHeader.{class_of, first_free, live_count, first_fresh, next_of, previous_of, kind_of, next_at, previous_at, kind_at}
+use Rattle.size_pages.specs.PageHeader.{class_of, first_free, live_count, first_fresh, next_of, previous_of}
+use Rattle.size_pages.specs.PageHeader.{kind_of, next_at, previous_at, kind_at}
+use Rattle.size_pages.specs.Kinds.{kind_number}
+use Rattle.size_pages.specs.declared.kinds.PageKind.TheVariants.{Unused, Room, Full, Waiting}
 use Rattle.size_pages.specs.LiveBlocks.{page_at}
 
 -- each of the places is so
@@ -40,9 +44,11 @@ pub record IsPage (size count p : ℕ) : Type 0 where
   pub below : number < count
   pub is : p ≡ page_at size number
 
--- which list: 0 for the unused pages, which are on none, 1 the waiting ones, and for each class those with room and the full ones
+-- the list of the pages of the kind with that number, as `list_index` has it: 0 for the unused ones, which are on none,
+-- 1 for the waiting ones, and two of each class, for those with room and the full ones
 abbrev pub list_number : ℕ → ℕ → ℕ
-list_number kind class = if kind == 0 then 0 else (if kind == 3 then 1 else 2 * class + (kind - 1))
+list_number kind class =
+    if kind == kind_number Unused then 0 else (if kind == kind_number Waiting then 1 else 2 * class + (kind - 1))
 
 -- the list of the page at p
 abbrev pub list_of : Words → ℕ → ℕ
@@ -52,14 +58,14 @@ list_of w p = list_number (kind_of w p) (class_of w p)
 abbrev pub HasRoom : Words → ℕ → ℕ → Type 0
 HasRoom w size p = (first_free w p ≢ 0) ⊎ (first_fresh w p + class_of w p ≤ p + size)
 
--- the page's words allow it to be of this kind
+-- the page's words allow it to be of the kind with that number
 pub record IsRight (kind : ℕ) (w : Words) (size p : ℕ) : Type 0 where
-  pub known : kind ≤ 3
-  pub unused : kind ≡ 0 → class_of w p ≡ 0
-  pub used : kind ≢ 0 → 2 ≤ class_of w p
-  pub room : kind ≡ 1 → HasRoom w size p
-  pub full : kind ≡ 2 → (first_free w p ≡ 0) × (p + size < first_fresh w p + class_of w p)
-  pub busy : kind ≡ 1 → 0 < live_count w p
+  pub known : kind ≤ kind_number Waiting
+  pub unused : kind ≡ kind_number Unused → class_of w p ≡ 0
+  pub used : kind ≢ kind_number Unused → 2 ≤ class_of w p
+  pub room : kind ≡ kind_number Room → HasRoom w size p
+  pub full : kind ≡ kind_number Full → (first_free w p ≡ 0) × (p + size < first_fresh w p + class_of w p)
+  pub busy : kind ≡ kind_number Room → 0 < live_count w p
 
 -- the page is on the list that its words call for
 abbrev pub IsListedRightly : Words → ℕ → ℕ → Type 0
@@ -75,7 +81,8 @@ pub record ListsFit (w : Words) (size count : ℕ) (heads : List ℕ) (waiting :
   pub distinct : (s : ℕ) → AreDistinct (lists s)
   pub pages : (s : ℕ) → EachPlace (IsPage size count) (lists s)
   pub right : (s : ℕ) → EachPlace (λ p. (list_of w p ≡ s) × (p ≢ except)) (lists s)
-  pub listed : (k : ℕ) → k < count → class_of w (page_at size k) ≢ 0 → page_at size k ≢ except → IsIn (page_at size k) (lists (list_of w (page_at size k)))
+  pub listed : (k : ℕ) → k < count → class_of w (page_at size k) ≢ 0 → page_at size k ≢ except
+      → IsIn (page_at size k) (lists (list_of w (page_at size k)))
   pub rightly : (k : ℕ) → k < count → page_at size k ≢ except → IsListedRightly w size (page_at size k)
 
 -- the page is taken off the list s

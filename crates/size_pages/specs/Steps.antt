@@ -2,7 +2,11 @@
 use Rattle.std.specs.Prelude.{◌≡◌, ◌≢◌, ℕ, ◌+◌, ◌*◌, ◌<◌, ◌≤◌, ◌⊎◌, ◌^◌, List, length, slice_index}
 use Rattle.heap_space.specs.Memory.{Memory}
 use Rattle.size_pages.specs.PageWords.{Words, word_in, CanStore}
-use Rattle.size_pages.specs.PageHeader.{HasPageHeader, class_of, first_free, live_count, first_fresh, next_of, previous_of, kind_of, next_free, next_at, previous_at, kind_at, blocks_at, link_at}
+use Rattle.size_pages.specs.PageHeader.{HasPageHeader, class_of, first_free, live_count, first_fresh, next_of}
+use Rattle.size_pages.specs.PageHeader.{previous_of, kind_of, next_free, next_at, previous_at, kind_at}
+use Rattle.size_pages.specs.PageHeader.{blocks_at, link_at}
+use Rattle.size_pages.specs.Kinds.{kind_number}
+use Rattle.size_pages.specs.declared.kinds.PageKind.TheVariants.{Room}
 use Rattle.size_pages.specs.PageLists.{IsPage, IsRight, HasRoom, list_of, list_number}
 use Rattle.size_pages.specs.HasBlocks.{StandsBut, Stands, IsLive}
 use Rattle.size_pages.specs.declared.Pages.{Pages}
@@ -118,7 +122,7 @@ pub record KeepsRoom (w : Words) (page n end : ℕ) : Type 0 where
 pub record IsOpen (pages : Pages) (m : Memory) (page n : ℕ) : Type 0 where
   pub off : CanTakeOff pages m page (2 * n)
   pub class : class_of (word_in m) page ≡ n
-  pub kind : kind_of (word_in m) page ≡ 1
+  pub kind : kind_of (word_in m) page ≡ kind_number Room
   pub room : HasRoom (word_in m) pages.page page
 
 -- the page stays on that list where a block is taken

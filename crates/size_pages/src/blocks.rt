@@ -48,8 +48,10 @@ fn take_fresh(space: &mut Space, page: u64, n: u64) -> u64
 /// Hands out a block of the page: a chained one, where there is one.
 pub fn take_from(space: &mut Space, page: u64, n: u64) -> u64
     requires { CanTake space.old page n }
-    ensures chained { first_free (word_in space.old) page ≢ 0 → TakesChained (word_in space.old) (word_in space.new) page result }
-    ensures fresh { first_free (word_in space.old) page ≡ 0 → TakesFresh (word_in space.old) (word_in space.new) page result n }
+    ensures chained { first_free (word_in space.old) page ≢ 0
+        → TakesChained (word_in space.old) (word_in space.new) page result }
+    ensures fresh { first_free (word_in space.old) page ≡ 0
+        → TakesFresh (word_in space.old) (word_in space.new) page result n }
     ensures arenas { IsInArenas space.old space.new }
 {
     if header::first_free(space, page) != 0 {
@@ -62,9 +64,14 @@ pub fn take_from(space: &mut Space, page: u64, n: u64) -> u64
 pub fn right_kind(space: &Space, page: u64, n: u64, end: u64) -> PageKind
     requires header { HasPageHeader space.now page }
     requires fresh { first_fresh (word_in space.now) page + n < 2 ^ 63 }
-    ensures known { (kind_number result ≡ kind_number Room) ⊎ (kind_number result ≡ kind_number Full) }
-    ensures room { kind_number result ≡ kind_number Room → (first_free (word_in space.now) page ≢ 0) ⊎ (first_fresh (word_in space.now) page + n ≤ end) }
-    ensures full { kind_number result ≡ kind_number Full → (first_free (word_in space.now) page ≡ 0) × (end < first_fresh (word_in space.now) page + n) }
+    ensures known { (kind_number result ≡ kind_number Room) ⊎
+        (kind_number result ≡ kind_number Full) }
+    ensures room { kind_number result ≡ kind_number Room
+        → (first_free (word_in space.now) page ≢ 0) ⊎ (first_fresh (word_in space.now) page + n ≤
+        end) }
+    ensures full { kind_number result ≡ kind_number Full
+        → (first_free (word_in space.now) page ≡ 0) × (end < first_fresh (word_in space.now) page +
+        n) }
 {
     if header::first_free(space, page) != 0 {
         return PageKind::Room;

@@ -12,7 +12,8 @@ use heap_space::Space;
 /// Appends the pages of the list that begins at `first`. There is room for them.
 fn gather_list(order: &mut Vec<u64>, space: &Space, first: u64)
     requires { CanGather space.now first (vec_len order.old) (vec_capacity order.old) }
-    ensures gathered { (list : List ℕ) → IsListFrom space.now first list → order.new.items ≡ order.old.items ++ list }
+    ensures gathered { (list : List ℕ) → IsListFrom space.now first list
+        → order.new.items ≡ order.old.items ++ list }
     ensures room { vec_capacity order.new ≡ vec_capacity order.old }
 {
     let mut page = first;

@@ -3,9 +3,11 @@
 
 ghost use Rattle.std.specs.Prelude.{◌≡◌, ℕ};
 ghost use Rattle.size_pages.specs.PageWords.{word_in, IsStored, CanStore, IsInArenas};
-ghost use Rattle.size_pages.specs.PageHeader.{class_of, first_free, live_count, first_fresh, next_of, previous_of, kind_of, next_free};
+ghost use Rattle.size_pages.specs.PageHeader.{class_of, first_free, live_count, first_fresh};
+ghost use Rattle.size_pages.specs.PageHeader.{next_of, previous_of, kind_of, next_free};
 ghost use Rattle.size_pages.specs.Kinds.{kind_number, HasKind};
-ghost use Rattle.size_pages.specs.PageHeader.{first_free_at, live_count_at, first_fresh_at, next_at, previous_at, kind_at, link_at};
+ghost use Rattle.size_pages.specs.PageHeader.{first_free_at, live_count_at, first_fresh_at};
+ghost use Rattle.size_pages.specs.PageHeader.{next_at, previous_at, kind_at, link_at};
 
 use crate::kinds::PageKind;
 use crate::words::{load, store};
@@ -141,7 +143,8 @@ pub fn set_previous(space: &mut Space, page: u64, before: u64)
 /// Writes what `kind` reads.
 pub fn set_kind(space: &mut Space, page: u64, kind: PageKind)
     requires { CanStore space.old (kind_at page) }
-    ensures word { IsStored (word_in space.old) (word_in space.new) (kind_at page) (kind_number kind) }
+    ensures word { IsStored (word_in space.old) (word_in space.new) (kind_at page)
+        (kind_number kind) }
     ensures arenas { IsInArenas space.old space.new }
     ensures still { (b : ℕ) → CanStore space.old b → CanStore space.new b }
 {

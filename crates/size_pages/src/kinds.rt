@@ -2,6 +2,7 @@
 
 ghost use Rattle.std.specs.Prelude.{◌≡◌, ◌≢◌, ℕ, ◌^◌, ◌<◌, ◌≤◌, true, false, IsTrue};
 ghost use Rattle.size_pages.specs.Kinds.{kind_number, list_index};
+ghost use Rattle.size_pages.specs.declared.kinds.PageKind.TheVariants.{Full, Waiting};
 
 /// What a page is. It says on which list the page is.
 #[derive(Clone, Copy)]
@@ -63,9 +64,9 @@ impl PageKind {
 
     /// Whether its pages wait.
     pub fn is_waiting(self) -> bool
-        ensures yes { result ≡ true → kind_number self ≡ 3 }
-        ensures waits { kind_number self ≡ 3 → IsTrue result }
-        ensures no { result ≡ false → kind_number self ≢ 3 }
+        ensures yes { result ≡ true → kind_number self ≡ kind_number Waiting }
+        ensures waits { kind_number self ≡ kind_number Waiting → IsTrue result }
+        ensures no { result ≡ false → kind_number self ≢ kind_number Waiting }
     {
         match self {
             PageKind::Waiting => true,
@@ -75,8 +76,8 @@ impl PageKind {
 
     /// Whether its pages are full.
     pub fn is_full(self) -> bool
-        ensures yes { result ≡ true → kind_number self ≡ 2 }
-        ensures no { result ≡ false → kind_number self ≢ 2 }
+        ensures yes { result ≡ true → kind_number self ≡ kind_number Full }
+        ensures no { result ≡ false → kind_number self ≢ kind_number Full }
     {
         match self {
             PageKind::Full => true,

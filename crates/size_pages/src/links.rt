@@ -26,8 +26,10 @@ fn link_forth(heads: &mut Vec<u64>, space: &mut Space, list: usize, before: u64,
     requires page { before ≢ 0 → CanStore space.old (next_at before) }
     ensures size { vec_len heads.new ≡ vec_len heads.old }
     ensures first { before ≡ 0 → slice_index heads.new.items list ≡ next }
-    ensures not_first { before ≢ 0 → slice_index heads.new.items list ≡ slice_index heads.old.items list }
-    ensures others { (t : ℕ) → t ≢ list → slice_index heads.new.items t ≡ slice_index heads.old.items t }
+    ensures not_first { before ≢ 0
+        → slice_index heads.new.items list ≡ slice_index heads.old.items list }
+    ensures others { (t : ℕ) → t ≢ list
+        → slice_index heads.new.items t ≡ slice_index heads.old.items t }
     ensures forth { before ≢ 0 → next_of (word_in space.new) before ≡ next }
     ensures rest { (e : ℕ) → e ≢ next_at before → word_in space.new e ≡ word_in space.old e }
     ensures arenas { IsInArenas space.old space.new }
@@ -56,7 +58,8 @@ fn link_back(space: &mut Space, next: u64, before: u64)
 /// Takes the page off the list.
 pub fn unlink(heads: &mut Vec<u64>, space: &mut Space, page: u64, list: usize)
     requires { CanUnlink space.old heads.old.items page list }
-    ensures unlinks { Unlinks (word_in space.old) (word_in space.new) heads.old.items heads.new.items page list }
+    ensures unlinks { Unlinks (word_in space.old) (word_in space.new) heads.old.items
+        heads.new.items page list }
     ensures arenas { IsInArenas space.old space.new }
 {
     let next = header::next(space, page);
@@ -68,7 +71,8 @@ pub fn unlink(heads: &mut Vec<u64>, space: &mut Space, page: u64, list: usize)
 /// Puts the page in front of the list.
 pub fn link(heads: &mut Vec<u64>, space: &mut Space, page: u64, list: usize, kind: PageKind)
     requires { CanLink space.old heads.old.items page list }
-    ensures links { Links (word_in space.old) (word_in space.new) heads.old.items heads.new.items page list (kind_number kind) }
+    ensures links { Links (word_in space.old) (word_in space.new) heads.old.items heads.new.items
+        page list (kind_number kind) }
     ensures arenas { IsInArenas space.old space.new }
 {
     let next = first(heads, list);

@@ -19,7 +19,9 @@ impl Pages {
     /// memory. What `out` held stands before it then, and what stands behind that is not said.
     pub fn live_blocks(&self, space: &Space, out: &mut Vec<(u64, u64)>) -> Result<(), AllocError>
         requires { StandsWithHeaders self.now space.now }
-        ensures listed { (live : List Extent) (waiting : List ℕ) → HasHeaders self.now space.now live waiting → OnOk result (AppendsLive out.old.items out.new.items live) }
+        ensures listed { (live : List Extent) (waiting : List ℕ)
+            → HasHeaders self.now space.now live waiting
+            → OnOk result (AppendsLive out.old.items out.new.items live) }
         ensures err { OnErr result (HoldsMore out.old.items out.new.items) }
     {
         for number in 0..self.count {
@@ -36,7 +38,8 @@ impl Pages {
         out: &mut Vec<(u64, u64)>,
     ) -> Result<(), AllocError>
         requires { CanListBlocks self.now space.now page }
-        ensures listed { OnOk result (ListsBlocks self.now space.now page out.old.items out.new.items) }
+        ensures listed { OnOk result (ListsBlocks self.now space.now page out.old.items
+            out.new.items) }
         ensures more { HoldsMore out.old.items out.new.items }
     {
         let class = header::class(space, page);

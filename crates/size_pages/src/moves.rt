@@ -1,13 +1,15 @@
 //! Pages that leave a list, change, and go on another.
 
-ghost use Rattle.std.specs.Prelude.{◌≡◌, ◌≢◌, ℕ, ◌+◌, ◌-◌, ◌*◌, ◌/◌, ◌<◌, ◌≤◌, List, ◌∷◌, length, slice_index, IfOk, OnErr};
+ghost use Rattle.std.specs.Prelude.{◌≡◌, ◌≢◌, ℕ, ◌+◌, ◌-◌, ◌*◌, ◌/◌, ◌<◌, ◌≤◌, List, ◌∷◌, length};
+ghost use Rattle.std.specs.Prelude.{slice_index, IfOk, OnErr};
 ghost use Rattle.heap_space.specs.Extents.{Extent, KeepsWords};
 ghost use Rattle.size_pages.specs.PageWords.{word_in, IsInArenas};
 ghost use Rattle.size_pages.specs.PageHeader.{blocks_at};
 ghost use Rattle.size_pages.specs.PageLists.{IsPage, SameSigns, Unlinks, Links};
 ghost use Rattle.size_pages.specs.HasBlocks.{HasBlocks, HasBlocksBut, Stands, IsLive};
 ghost use Rattle.size_pages.specs.Kinds.{kind_number};
-ghost use Rattle.size_pages.specs.Steps.{TakesNext, IsOnlyHeads, CanTakeOff, CanPutOn, CanEnd, CanGiveFull, CanTakeUnlisted, StaysOpen};
+ghost use Rattle.size_pages.specs.Steps.{TakesNext, IsOnlyHeads, CanTakeOff, CanPutOn, CanEnd};
+ghost use Rattle.size_pages.specs.Steps.{CanGiveFull, CanTakeUnlisted, StaysOpen};
 ghost use Rattle.size_pages.specs.Growth.{IsLowered, KeepsBlocks};
 ghost use Rattle.size_pages.specs.Calls.{page_of};
 ghost use Rattle.size_pages.specs.Moves.{FindsPage, TakesListed, GivesBlock};
@@ -32,8 +34,11 @@ impl Pages {
     /// Takes the page off its list, which is not that of the waiting pages.
     pub(crate) fn take_off(&mut self, space: &mut Space, page: u64, list: usize)
         requires { CanTakeOff self.old space.old page list }
-        ensures off { (live : List Extent) (waiting : List ℕ) → HasBlocks self.old space.old live waiting → HasBlocksBut self.new space.new live waiting page }
-        ensures unlinks { Unlinks (word_in space.old) (word_in space.new) self.old.heads.items self.new.heads.items page list }
+        ensures off { (live : List Extent) (waiting : List ℕ)
+            → HasBlocks self.old space.old live waiting
+            → HasBlocksBut self.new space.new live waiting page }
+        ensures unlinks { Unlinks (word_in space.old) (word_in space.new) self.old.heads.items
+            self.new.heads.items page list }
         ensures signs { SameSigns (word_in space.old) (word_in space.new) page }
         ensures heads { IsOnlyHeads self.old self.new }
         ensures arenas { IsInArenas space.old space.new }
@@ -44,8 +49,11 @@ impl Pages {
     /// Puts the page in front of the list, which is not that of the waiting pages.
     pub(crate) fn put_on(&mut self, space: &mut Space, page: u64, list: usize, kind: PageKind)
         requires { CanPutOn self.old space.old page list (kind_number kind) }
-        ensures on { (live : List Extent) (waiting : List ℕ) → HasBlocksBut self.old space.old live waiting page → HasBlocksBut self.new space.new live waiting 0 }
-        ensures links { Links (word_in space.old) (word_in space.new) self.old.heads.items self.new.heads.items page list (kind_number kind) }
+        ensures on { (live : List Extent) (waiting : List ℕ)
+            → HasBlocksBut self.old space.old live waiting page
+            → HasBlocksBut self.new space.new live waiting 0 }
+        ensures links { Links (word_in space.old) (word_in space.new) self.old.heads.items
+            self.new.heads.items page list (kind_number kind) }
         ensures heads { IsOnlyHeads self.old self.new }
         ensures arenas { IsInArenas space.old space.new }
     {
@@ -55,8 +63,12 @@ impl Pages {
     /// Takes a block of n words from a page that is on no list, and puts the page on its list.
     pub(crate) fn take_unlisted(&mut self, space: &mut Space, page: u64, n: u64) -> u64
         requires { CanTakeUnlisted self.old space.old page n }
-        ensures taken { (live : List Extent) (waiting : List ℕ) → HasBlocksBut self.old space.old live waiting page → HasBlocksBut self.new space.new ((result, n) ∷ live) waiting 0 }
-        ensures kept { (live : List Extent) (waiting : List ℕ) → HasBlocksBut self.old space.old live waiting page → KeepsWords space.old space.new live }
+        ensures taken { (live : List Extent) (waiting : List ℕ)
+            → HasBlocksBut self.old space.old live waiting page
+            → HasBlocksBut self.new space.new ((result, n) ∷ live) waiting 0 }
+        ensures kept { (live : List Extent) (waiting : List ℕ)
+            → HasBlocksBut self.old space.old live waiting page
+            → KeepsWords space.old space.new live }
         ensures cleared { word_in space.new result ≡ 0 }
         ensures place { (blocks_at page ≤ result) × (result + n ≤ page + self.old.page) }
         ensures page { page ≡ page_of self.old.page result }

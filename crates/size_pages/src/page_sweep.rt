@@ -4,12 +4,16 @@ ghost use Rattle.std.specs.Prelude.{◌≡◌, ℕ, ◌+◌, ◌-◌, ◌/◌, �
 ghost use Rattle.heap_space.specs.Extents.{Extent};
 ghost use Rattle.size_pages.specs.PageWords.{word_in, IsInArenas};
 ghost use Rattle.size_pages.specs.PageHeader.{first_fresh, HasPageHeader, blocks_at};
-ghost use Rattle.size_pages.specs.HasBlocks.{page_size, HasBlocks, HasBlocksBut, Stands, KeepsSizes};
+ghost use Rattle.size_pages.specs.HasBlocks.{page_size, HasBlocks, HasBlocksBut, Stands};
+ghost use Rattle.size_pages.specs.HasBlocks.{KeepsSizes};
+ghost use Rattle.size_pages.specs.Kinds.{list_index};
+ghost use Rattle.size_pages.specs.declared.kinds.PageKind.TheVariants.{Waiting};
 ghost use Rattle.size_pages.specs.PageLists.{SameSigns, Unlinks};
 ghost use Rattle.size_pages.specs.Headers.{HasHeaders};
 ghost use Rattle.size_pages.specs.SweepSteps.{IsOnlyLists};
 ghost use Rattle.size_pages.specs.Sweeping.{CanSweep, SweepsPage, is_dead};
-ghost use Rattle.size_pages.specs.SlotSteps.{CanSweepAt, CanSweepSlot, GathersBirths, HoldsNumbers, SweepsBlocks, SweepsSlot, CanRelist, Relists};
+ghost use Rattle.size_pages.specs.SlotSteps.{CanSweepAt, CanSweepSlot, GathersBirths, HoldsNumbers};
+ghost use Rattle.size_pages.specs.SlotSteps.{SweepsBlocks, SweepsSlot, CanRelist, Relists};
 
 use crate::Pages;
 use crate::blocks::{clear_page, put_on_chain, right_kind};
@@ -47,7 +51,10 @@ impl Pages {
     /// memory, and leaves everything as it was.
     pub fn sweep_page(&mut self, space: &mut Space, freed: &mut Vec<u64>) -> Result<(), AllocError>
         requires { CanSweep self.old space.old }
-        ensures swept { (live : List Extent) (page : ℕ) (rest : List ℕ) → HasHeaders self.old space.old live (page ∷ rest) → OnOk result (SweepsPage self.new space.old space.new (page_size self.old) live page rest freed.old.items freed.new.items) }
+        ensures swept { (live : List Extent) (page : ℕ) (rest : List ℕ)
+            → HasHeaders self.old space.old live (page ∷ rest)
+            → OnOk result (SweepsPage self.new space.old space.new (page_size self.old) live page
+            rest freed.old.items freed.new.items) }
         ensures err { OnErr result (self.new ≡ self.old) }
         ensures err_space { OnErr result (space.new ≡ space.old) }
         ensures err_freed { OnErr result (freed.new.items ≡ freed.old.items) }
@@ -65,7 +72,8 @@ impl Pages {
     /// Appends the births of the page's objects that were not visited, or nothing.
     fn gather(&self, space: &Space, page: u64, freed: &mut Vec<u64>) -> Result<(), AllocError>
         requires { CanSweepAt self.now space.now page }
-        ensures gathered { OnOk result (GathersBirths self.now space.now page freed.old.items freed.new.items) }
+        ensures gathered { OnOk result (GathersBirths self.now space.now page freed.old.items
+            freed.new.items) }
         ensures err { OnErr result (freed.new.items ≡ freed.old.items) }
     {
         let before = freed.len();
@@ -84,7 +92,8 @@ impl Pages {
         freed: &mut Vec<u64>,
     ) -> Result<(), AllocError>
         requires { CanSweepAt self.now space.now page }
-        ensures gathered { OnOk result (GathersBirths self.now space.now page freed.old.items freed.new.items) }
+        ensures gathered { OnOk result (GathersBirths self.now space.now page freed.old.items
+            freed.new.items) }
         ensures more { HoldsNumbers freed.old.items freed.new.items }
     {
         let class = header::class(space, page);
@@ -131,8 +140,11 @@ impl Pages {
     /// Takes the first waiting page off its list.
     fn take_off_first(&mut self, space: &mut Space, page: u64)
         requires { CanRelist self.old space.old page }
-        ensures off { (live : List Extent) (rest : List ℕ) → HasBlocks self.old space.old live (page ∷ rest) → HasBlocksBut self.new space.new live rest page }
-        ensures unlinks { Unlinks (word_in space.old) (word_in space.new) self.old.heads.items self.new.heads.items page 1 }
+        ensures off { (live : List Extent) (rest : List ℕ)
+            → HasBlocks self.old space.old live (page ∷ rest)
+            → HasBlocksBut self.new space.new live rest page }
+        ensures unlinks { Unlinks (word_in space.old) (word_in space.new) self.old.heads.items
+            self.new.heads.items page (list_index Waiting 0) }
         ensures signs { SameSigns (word_in space.old) (word_in space.new) page }
         ensures lists { IsOnlyLists self.old self.new }
         ensures arenas { IsInArenas space.old space.new }
