@@ -37,6 +37,7 @@ use Rattle.store_model.specs.Sound.{IsPhaseSound}
 use Rattle.heap_parts.specs.Headers.{is_marked}
 use Rattle.frame_laws.proofs.MinorNeeds.{settled_place}
 use Rattle.object_model.proofs.Members.{not-true, and_second, and_first}
+use Rattle.old_space.specs.HasBlocks.{page_size}
 
 -- the blocks outside the nursery, as they stand in marking
 abbrev pub marking_blocks : (heap : HeapParts) (store : Store) → PartsStandFor heap store → List Extent
@@ -71,7 +72,7 @@ pub record BeganSweep (old : Old) (m : Memory) (new : Old) (after : Memory) (liv
   pub kept : KeepsWords m after live
   pub outside : KeepsOutside 4294967296 9223372036854775808 m after
   pub arena_words : after.arena_words ≡ m.arena_words
-  pub page : new.pages.page ≡ old.pages.page
+  pub page : page_size new ≡ page_size old
   pub small : greatest_small new ≡ greatest_small old
 
 module _ (heap : HeapParts) (store : Store) (s : PartsStandFor heap store) (saved : ℕ → Bool) (m : Memory) (marks : MarksEnd heap store s saved m)

@@ -35,6 +35,7 @@ use Rattle.heap_phases.proofs.WeakOnce.{cleared_sorted}
 use Rattle.heap_phases.proofs.EndWords.{losing}
 use Rattle.heap_phases.proofs.MajorSteps.{EndsTo, ends}
 use Rattle.heap_phases.proofs.PartsAgree.{parts_agree, ends_same}
+use Rattle.old_space.specs.HasBlocks.{page_size}
 
 -- What clearing the targets and choosing leave, for every store that the parts stand for: these births are kept for finalizers.
 pub record ChosenFor (heap one : HeapParts) (kept : List ℕ) : Type 0 where
@@ -102,7 +103,7 @@ module _ (heap : HeapParts) (marking : heap.phase ≡ Marking) (gray : heap.gray
           kept = subst (λ (k : Memory). KeepsWords k three.memory (marking_blocks heap store s)) memory b.1;
           outside = subst (λ (k : Memory). KeepsOutside 4294967296 9223372036854775808 k three.memory) memory becomes.outside;
           arena_words = becomes.arena_words ∙ ap (λ (k : Memory). k.arena_words) memory;
-          page = becomes.sizes.page ∙ ap (λ (o : Old). o.pages.page) old;
+          page = becomes.sizes.page ∙ ap (λ (o : Old). page_size o) old;
           small = becomes.sizes.small ∙ ap (λ (o : Old). greatest_small o) old;
         }
 

@@ -37,6 +37,7 @@ use Rattle.std.proofs.lemmas.List.Sorted.{list_any-IsPermutation}
 use Rattle.frame_laws.proofs.KeepWords.{SameObjects, walks-same, blocks_same}
 use Rattle.heap_phases.proofs.EndObjects.{ClearsTargets, end_objects}
 use Rattle.frame_laws.proofs.Filters.{filter_swap, filter_every, filter_at, filter_permuted, parts_permuted, contains_is_in}
+use Rattle.old_space.specs.HasBlocks.{page_size}
 
 -- What the end of marking makes of the words and of the blocks outside the nursery.
 pub record EndsWords (types : Table TypeInfo) (page : ℕ) (old new : Memory) (new_blocks : Old) (home : ℕ → Option ℕ) (places : List ℕ) (name : ℕ → ℕ)
@@ -46,7 +47,7 @@ pub record EndsWords (types : Table TypeInfo) (page : ℕ) (old new : Memory) (n
   pub blocks : HasBlocks new_blocks new (blocks_of types (word_at old.blocks) home (young_places places) (old_places places) [] []) waiting
   pub every : Each (λ x. Contains waiting (unit_of new_blocks x.0)) (blocks_of types (word_at old.blocks) home (young_places places) (old_places places) [] [])
   pub most : length waiting ≤ length (blocks_of types (word_at old.blocks) home (young_places places) (old_places places) [] [])
-  pub page_is : new_blocks.pages.page ≡ page
+  pub page_is : page_size new_blocks ≡ page
 
 -- the places of the objects that stay, and those of the new husks
 abbrev pub staying : (ℕ → Bool) → (ℕ → ℕ) → List ℕ → List ℕ

@@ -54,6 +54,7 @@ use Rattle.heap_phases.proofs.SweepWords.{other_husks, swept, swept_words, first
 use Rattle.store_model.proofs.Homes.{found_where, kept_where}
 use Rattle.object_model.proofs.Distinct.{distinct-right, distinct-less, distinct-apart}
 use Rattle.store_model.proofs.HusksSound.{husks_sound}
+use Rattle.old_space.specs.HasBlocks.{page_size}
 
 -- names that differ are those of places that differ
 distinct-names : (name : ℕ → ℕ) (ps : List ℕ) → IsDistinct nat_eq (map name ps) → (p q : ℕ) → IsTrue (is_in p ps) → IsTrue (is_in q ps) → name p ≡ name q → p ≡ q
@@ -339,7 +340,7 @@ module _ (heap : HeapParts) (store : Store) (s : PartsStandFor heap store) (swee
   unit-is : (p : ℕ) → IsTrue (is_in p s.husks) → in_unit heap.old_blocks o.unit (husk-block p) ≡ (unit_at page_words p == o.unit)
   unit-is = of-husks (λ x. in_unit heap.old_blocks o.unit x ≡ (unit_at page_words x.0 == o.unit)) o.units
 
-  page-wide : 64 ≤ heap.old_blocks.pages.page
+  page-wide : 64 ≤ page_size heap.old_blocks
   page-wide = words-before.blocks.in_pages.blocks.size_low
 
   kind : PageUnit heap.old_blocks o.unit ⊎ (1099511627776 ≤ o.unit)
@@ -349,27 +350,27 @@ module _ (heap : HeapParts) (store : Store) (s : PartsStandFor heap store) (swee
   small-page = omega (arith, s.made.small, s.made.page, words-before.blocks.greatest, words-before.blocks.in_pages.setup.small_high)
 
   -- where the unit is a page
-  in-page : PageUnit heap.old_blocks o.unit → (p : ℕ) → IsTrue (is_in p s.husks) → in_page heap.old_blocks.pages.page o.unit (husk-block p) ≡ (unit_at page_words p == o.unit)
+  in-page : PageUnit heap.old_blocks o.unit → (p : ℕ) → IsTrue (is_in p s.husks) → in_page (page_size heap.old_blocks) o.unit (husk-block p) ≡ (unit_at page_words p == o.unit)
   in-page page p t = sym (page-test heap.old_blocks o.unit (husk-block p) page-wide page) ∙ unit-is p t
 
   page-sum : PageUnit heap.old_blocks o.unit → sum_by (words_at types (word_in heap)) lost ≤ page_words
   page-sum page =
-      let test : Extent → Bool = in_page heap.old_blocks.pages.page o.unit in
+      let test : Extent → Bool = in_page (page_size heap.old_blocks) o.unit in
       let f = page_few heap.old_blocks heap.memory _ o.unit o.rest words-before.blocks page in
       let most = f.sum in
       let H : List Extent = map husk-block s.husks in
       let O : List Extent = map husk-block (old_places s.places) in
       let R : List Extent = reserved_blocks types (word_in heap) (home_in heap) (young_places s.places) ++ [] in
-      let one = sum_append (where_passes (in_page heap.old_blocks.pages.page o.unit)) O (H ++ R) in
-      let two = sum_append (where_passes (in_page heap.old_blocks.pages.page o.unit)) H R in
-      let here = sum_placed husk-block (in_page heap.old_blocks.pages.page o.unit) (λ p. unit_at page_words p == o.unit) s.husks (in-page page) in
+      let one = sum_append (where_passes (in_page (page_size heap.old_blocks) o.unit)) O (H ++ R) in
+      let two = sum_append (where_passes (in_page (page_size heap.old_blocks) o.unit)) H R in
+      let here = sum_placed husk-block (in_page (page_size heap.old_blocks) o.unit) (λ p. unit_at page_words p == o.unit) s.husks (in-page page) in
       omega (arith, most, one, two, here, s.made.page)
 
   page-small : PageUnit heap.old_blocks o.unit → (p : ℕ) → IsTrue (is_in p lost) → nat_lt (small_words settings) (words_at types (word_in heap) p) ≡ false
   page-small page p t =
       let f = page_few heap.old_blocks heap.memory _ o.unit o.rest words-before.blocks page in
       let part = filter-part (λ q. unit_at page_words q == o.unit) s.husks p t in
-      let few = of-husks (λ x. in_page heap.old_blocks.pages.page o.unit x ≡ true → x.1 ≤ heap.old_blocks.small) f.each p part.0 (in-page page p part.0 ∙ part.1) in
+      let few = of-husks (λ x. in_page (page_size heap.old_blocks) o.unit x ≡ true → x.1 ≤ heap.old_blocks.small) f.each p part.0 (in-page page p part.0 ∙ part.1) in
       not-above (small_words settings) (words_at types (word_in heap) p) (omega (arith, few, s.made.small))
 
   -- where it is a large block

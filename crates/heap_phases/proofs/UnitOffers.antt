@@ -22,13 +22,15 @@ use Rattle.object_model.specs.Sets.{is_in}
 use Rattle.large_objects.specs.Blocks.{larges_of, AreRising, places_of}
 use Rattle.heap_space.specs.Extents.{begins_between}
 use Rattle.size_pages.specs.HasBlocks.{IsRising}
+use Rattle.size_pages.specs.HasBlocks.{page_count}
+use Rattle.old_space.specs.HasBlocks.{page_size}
 
 -- a waiting unit is a page, or the place of a large block
 pub record PageUnit (old : Old) (unit : ℕ) : Type 0 where
   pub number : ℕ
-  pub below : number < old.pages.count
-  pub is : unit ≡ page_at old.pages.page number
-  pub end : unit + old.pages.page ≤ 1099511627776
+  pub below : number < page_count old.pages
+  pub is : unit ≡ page_at (page_size old) number
+  pub end : unit + page_size old ≤ 1099511627776
 
 first-of : (P : ℕ → Type 0) (unit : ℕ) (rest wp wb : List ℕ) → unit ∷ rest ≡ wp ++ wb → EachPlace P wb → (EachPlace P wp) → P unit
 first-of P unit rest [] [] e b a = absurd (let no : ⊥ = cc in no)
@@ -47,81 +49,81 @@ pub unit_kind : (old : Old) (m : Memory) (live : List Extent) (unit : ℕ) (rest
 unit_kind old m live unit rest h =
     first-of (λ u. PageUnit old u ⊎ (1099511627776 ≤ u)) unit rest h.waiting_pages h.waiting_blocks h.waits
     (each-either (λ q. 1099511627776 ≤ q) _ h.waiting_blocks (λ x l. inr l) (blocks-above old.large m h.large h.waiting_blocks h.in_larges))
-    (each-two (IsPage old.pages.page old.pages.count) (λ q. q + old.pages.page ≤ 1099511627776) _ h.waiting_pages
+    (each-two (IsPage (page_size old) (page_count old.pages)) (λ q. q + page_size old ≤ 1099511627776) _ h.waiting_pages
     (λ x p e. inl (record { number = p.number; below = p.below; is = p.is; end = e }))
-    (subst (λ (xs : List ℕ). EachPlace (IsPage old.pages.page old.pages.count) xs) h.in_pages.lists.waits (h.in_pages.lists.pages 1))
+    (subst (λ (xs : List ℕ). EachPlace (IsPage (page_size old) (page_count old.pages)) xs) h.in_pages.lists.waits (h.in_pages.lists.pages 1))
     (waiting-ends old.pages m h.small h.waiting_pages h.in_pages))
 
 -- the two places of a page
-module _ (old : Old) (unit : ℕ) (x : Extent) (wide : 64 ≤ old.pages.page) where
+module _ (old : Old) (unit : ℕ) (x : Extent) (wide : 64 ≤ page_size old) where
   abbrev size : ℕ
-  size = old.pages.page
+  size = page_size old
 
   abbrev Tells : Type 0
-  Tells = in_unit old unit x ≡ (unit_at old.pages.page x.0 == unit)
+  Tells = in_unit old unit x ≡ (unit_at (page_size old) x.0 == unit)
 
-  small-of : x.0 < 1099511627776 → unit_at old.pages.page x.0 ≡ page_of old.pages.page x.0
+  small-of : x.0 < 1099511627776 → unit_at (page_size old) x.0 ≡ page_of (page_size old) x.0
   small-of l = let is : nat_lt x.0 1099511627776 ≡ true = grind (arith, nat_tests) in rw is refl
 
-  large-of : 1099511627776 ≤ x.0 → unit_at old.pages.page x.0 ≡ x.0
+  large-of : 1099511627776 ≤ x.0 → unit_at (page_size old) x.0 ≡ x.0
   large-of l = let is : nat_lt x.0 1099511627776 ≡ false = grind (arith, nat_tests) in rw is refl
 
-  pub page-test : PageUnit old unit → in_unit old unit x ≡ in_page old.pages.page unit x
+  pub page-test : PageUnit old unit → in_unit old unit x ≡ in_page (page_size old) unit x
   page-test p = let l = p.end in let is : nat_lt unit 1099511627776 ≡ true = grind (arith, nat_tests) in rw is refl
 
   pub large-test : 1099511627776 ≤ unit → in_unit old unit x ≡ (x.0 == unit)
   large-test l = let is : nat_lt unit 1099511627776 ≡ false = grind (arith, nat_tests) in rw is refl
 
-  small-tells : PageUnit old unit → IsInPages old.pages.page old.pages.count x → x.0 < 1099511627776 → Tells
+  small-tells : PageUnit old unit → IsInPages (page_size old) (page_count old.pages) x → x.0 < 1099511627776 → Tells
   small-tells p i low =
       let inner = i.low in let outer = i.high in let two = i.wide in
-      let mine : page_of old.pages.page x.0 ≡ page_at old.pages.page i.page = ap (page_at old.pages.page) (page_number old.pages.page i.page x.0 wide (omega (arith, inner)) (omega (arith, outer, two))) in
-      let at : unit_at old.pages.page x.0 ≡ page_at old.pages.page i.page = small-of low ∙ mine in
-      page-test p ∙ (elim (cases_Bool (in_page old.pages.page unit x)) [
+      let mine : page_of (page_size old) x.0 ≡ page_at (page_size old) i.page = ap (page_at (page_size old)) (page_number (page_size old) i.page x.0 wide (omega (arith, inner)) (omega (arith, outer, two))) in
+      let at : unit_at (page_size old) x.0 ≡ page_at (page_size old) i.page = small-of low ∙ mine in
+      page-test p ∙ (elim (cases_Bool (in_page (page_size old) unit x)) [
         | inl t ↦
             let low_u : unit ≤ x.0 = grind (arith, nat_tests) in
-            let high_u : x.0 < unit + old.pages.page = grind (arith, nat_tests) in
-            let k : page_of old.pages.page x.0 ≡ page_at old.pages.page p.number = ap (page_at old.pages.page) (page_number old.pages.page p.number x.0 wide (let e = p.is in omega (arith, low_u, e)) (let e = p.is in omega (arith, high_u, e))) in
-            t ∙ sym (eq-eqb (unit_at old.pages.page x.0) unit (small-of low ∙ (k ∙ sym p.is)))
-        | inr f ↦ elim (eqb_tells (unit_at old.pages.page x.0) unit) [
+            let high_u : x.0 < unit + page_size old = grind (arith, nat_tests) in
+            let k : page_of (page_size old) x.0 ≡ page_at (page_size old) p.number = ap (page_at (page_size old)) (page_number (page_size old) p.number x.0 wide (let e = p.is in omega (arith, low_u, e)) (let e = p.is in omega (arith, high_u, e))) in
+            t ∙ sym (eq-eqb (unit_at (page_size old) x.0) unit (small-of low ∙ (k ∙ sym p.is)))
+        | inr f ↦ elim (eqb_tells (unit_at (page_size old) x.0) unit) [
           | inl e ↦ absurd (
-              let same : unit ≡ page_at old.pages.page i.page = sym e.1 ∙ at in
-              let yes : in_page old.pages.page unit x ≡ true = inside (omega (arith, inner, same)) (omega (arith, outer, two, same)) in let no : ⊥ = cc in no)
+              let same : unit ≡ page_at (page_size old) i.page = sym e.1 ∙ at in
+              let yes : in_page (page_size old) unit x ≡ true = inside (omega (arith, inner, same)) (omega (arith, outer, two, same)) in let no : ⊥ = cc in no)
           | inr e ↦ f ∙ sym e.0
         ]
       ])
     where
-      inside : unit ≤ x.0 → x.0 < unit + old.pages.page → in_page old.pages.page unit x ≡ true
+      inside : unit ≤ x.0 → x.0 < unit + page_size old → in_page (page_size old) unit x ≡ true
       inside l r = grind (arith, nat_tests)
 
   large-tells : PageUnit old unit → 1099511627776 ≤ x.0 → Tells
   large-tells p high =
       let end = p.end in
-      let out : in_page old.pages.page unit x ≡ false = grind (arith, nat_tests) in
+      let out : in_page (page_size old) unit x ≡ false = grind (arith, nat_tests) in
       page-test p ∙ (out ∙ sym (ap (λ (k : ℕ). k == unit) (large-of high) ∙ ne_eqb x.0 unit (λ e. absurd (let no : ⊥ = omega (arith, e, high, end, wide) in no))))
 
   block-tells : 1099511627776 ≤ unit → 1099511627776 ≤ x.0 → Tells
   block-tells u high = large-test u ∙ ap (λ (k : ℕ). k == unit) (sym (large-of high))
 
-  other-tells : 1099511627776 ≤ unit → x.0 < 1099511627776 → page_of old.pages.page x.0 ≤ x.0 → Tells
+  other-tells : 1099511627776 ≤ unit → x.0 < 1099511627776 → page_of (page_size old) x.0 ≤ x.0 → Tells
   other-tells u low below =
       large-test u ∙ (ne_eqb x.0 unit (λ e. absurd (let no : ⊥ = omega (arith, e, u, low) in no))
-      ∙ sym (ap (λ (k : ℕ). k == unit) (small-of low) ∙ ne_eqb (page_of old.pages.page x.0) unit (λ e. absurd (let no : ⊥ = omega (arith, e, u, low, below) in no))))
+      ∙ sym (ap (λ (k : ℕ). k == unit) (small-of low) ∙ ne_eqb (page_of (page_size old) x.0) unit (λ e. absurd (let no : ⊥ = omega (arith, e, u, low, below) in no))))
 
 -- the clause `units`
 pub units_tell : (old : Old) (m : Memory) (live : List Extent) (unit : ℕ) (rest : List ℕ) → HasBlocks old m live (unit ∷ rest)
-    → Each (λ x. in_unit old unit x ≡ (unit_at old.pages.page x.0 == unit)) live
+    → Each (λ x. in_unit old unit x ≡ (unit_at (page_size old) x.0 == unit)) live
 units_tell old m live unit rest h =
     let wide = h.in_pages.blocks.size_low in
     let kind = unit_kind old m live unit rest h in
-    HasBlocks-each (λ x. in_unit old unit x ≡ (unit_at old.pages.page x.0 == unit)) old m live (unit ∷ rest) h
-    (Each-both (IsInPages old.pages.page old.pages.count) (λ x. x.0 + x.1 ≤ 1099511627776) (λ x. in_unit old unit x ≡ (unit_at old.pages.page x.0 == unit))
+    HasBlocks-each (λ x. in_unit old unit x ≡ (unit_at (page_size old) x.0 == unit)) old m live (unit ∷ rest) h
+    (Each-both (IsInPages (page_size old) (page_count old.pages)) (λ x. x.0 + x.1 ≤ 1099511627776) (λ x. in_unit old unit x ≡ (unit_at (page_size old) x.0 == unit))
     (λ x i e. let low : x.0 < 1099511627776 = (let two = i.wide in omega (arith, e, two)) in elim kind [
       | inl p ↦ small-tells old unit x wide p i low
       | inr u ↦ other-tells old unit x wide u low (let inner = i.low in let outer = i.high in let two = i.wide in
-          let mine : page_of old.pages.page x.0 ≡ page_at old.pages.page i.page = ap (page_at old.pages.page) (page_number old.pages.page i.page x.0 wide (omega (arith, inner)) (omega (arith, outer, two))) in omega (arith, mine, inner))
+          let mine : page_of (page_size old) x.0 ≡ page_at (page_size old) i.page = ap (page_at (page_size old)) (page_number (page_size old) i.page x.0 wide (omega (arith, inner)) (omega (arith, outer, two))) in omega (arith, mine, inner))
     ]) h.small h.in_pages.blocks.inside (pages-below old.pages m h.small h.waiting_pages h.in_pages))
-    (Each-map (λ x. 1099511627776 ≤ x.0) (λ x. in_unit old unit x ≡ (unit_at old.pages.page x.0 == unit))
+    (Each-map (λ x. 1099511627776 ≤ x.0) (λ x. in_unit old unit x ≡ (unit_at (page_size old) x.0 == unit))
     (λ x l. elim kind [ inl p ↦ large-tells old unit x wide p l | inr u ↦ block-tells old unit x wide u l ]) h.large (larges-above old.large m h.large h.waiting_blocks h.in_larges))
 
 -- the number of units that wait
@@ -164,7 +166,7 @@ waits_once old m live unit rest h =
     (blocks-above old.large m h.large h.waiting_blocks h.in_larges) (waiting-ends old.pages m h.small h.waiting_pages h.in_pages)
     (λ rest2 e. later-above (begins_between old.large.wait_from old.large.wait_end) (larges_of m) unit rest2 h.in_larges.rising h.in_larges.wide (sym h.in_larges.waits ∙ e))
   where
-    go : (wp wb : List ℕ) → unit ∷ rest ≡ wp ++ wb → IsRising wp → EachPlace (λ q. 1099511627776 ≤ q) wb → EachPlace (λ q. q + old.pages.page ≤ 1099511627776) wp
+    go : (wp wb : List ℕ) → unit ∷ rest ≡ wp ++ wb → IsRising wp → EachPlace (λ q. 1099511627776 ≤ q) wb → EachPlace (λ q. q + page_size old ≤ 1099511627776) wp
         → ((rest2 : List ℕ) → wb ≡ unit ∷ rest2 → EachPlace (λ q. unit < q) rest2) → is_in unit rest ≡ false
     go [] wb e rise above ends later = above-out unit rest (later rest (sym e))
     go (q ∷ wp) wb e rise above ends later =

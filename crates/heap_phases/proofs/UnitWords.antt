@@ -8,7 +8,8 @@ use Rattle.std.proofs.lemmas.List.Sorted.{sum_by-IsPermutation}
 use Rattle.heap_space.specs.Memory.{Memory}
 use Rattle.heap_space.specs.Extents.{Extent, Each}
 use Rattle.heap_space.proofs.ExtentLaws.{Each-map, Each-right}
-use Rattle.size_pages.specs.PageWords.{word_in, PageHolds}
+use Rattle.size_pages.specs.PageWords.{word_in}
+use Rattle.size_pages.specs.PageBlocks.{PageHolds}
 use Rattle.size_pages.specs.LiveBlocks.{page_at, in_page, blocks_of}
 use Rattle.size_pages.specs.HasBlocks as pages
 use Rattle.size_pages.specs.declared.Pages.{Pages}
@@ -18,6 +19,8 @@ use Rattle.old_space.specs.HasBlocks.{HasBlocks}
 use Rattle.old_space.specs.declared.Old.{Old}
 use Rattle.old_space.proofs.JoinLaws.{HasBlocks-each, larges-above}
 use Rattle.heap_phases.proofs.UnitOffers.{PageUnit}
+use Rattle.size_pages.specs.HasBlocks.{greatest_block, page_count}
+use Rattle.old_space.specs.HasBlocks.{page_size}
 
 -- a number where the test passes, and nothing else
 abbrev pub where_passes : (Extent → Bool) → Extent → ℕ
@@ -86,25 +89,25 @@ pub record PageWords (size most : ℕ) (live : List Extent) : Type 0 where
   pub sum : sum_by (λ x. x.1) live ≤ size
   pub each : Each (λ x. x.1 ≤ most) live
 
-page-words : (p : Pages) (m : Memory) (live : List Extent) (waiting : List ℕ) (k : ℕ) → pages.HasBlocks p m live waiting → k < p.count
-    → PageWords p.page p.small (blocks_of p.page (page_at p.page k) live)
+page-words : (p : Pages) (m : Memory) (live : List Extent) (waiting : List ℕ) (k : ℕ) → pages.HasBlocks p m live waiting → k < page_count p
+    → PageWords (pages.page_size p) (greatest_block p) (blocks_of (pages.page_size p) (page_at (pages.page_size p) k) live)
 page-words p m live waiting k h below =
     let is = h.blocks.pages k below in
-    elim (eqb_tells (word_in m (page_at p.page k)) 0) [
-      | inl e ↦ subst (λ (xs : List Extent). PageWords p.page p.small xs) (sym (is.unused e.1)) (record { sum = omega arith; each = tt })
-      | inr e ↦ used (blocks_of p.page (page_at p.page k) live) is.free (is.holds e.1) (h.classes.small k below)
+    elim (eqb_tells (word_in m (page_at (pages.page_size p) k)) 0) [
+      | inl e ↦ subst (λ (xs : List Extent). PageWords (pages.page_size p) (greatest_block p) xs) (sym (is.unused e.1)) (record { sum = omega arith; each = tt })
+      | inr e ↦ used (blocks_of (pages.page_size p) (page_at (pages.page_size p) k) live) is.free (is.holds e.1) (h.classes.small k below)
     ]
   where
-    used : (xs free : List Extent) → PageHolds (word_in m) p.page (page_at p.page k) free xs → word_in m (page_at p.page k) ≤ p.small → PageWords p.page p.small xs
+    used : (xs free : List Extent) → PageHolds (word_in m) (pages.page_size p) (page_at (pages.page_size p) k) free xs → word_in m (page_at (pages.page_size p) k) ≤ greatest_block p → PageWords (pages.page_size p) (greatest_block p) xs
     used xs free holds most =
-        let n : ℕ = word_in m (page_at p.page k) in
+        let n : ℕ = word_in m (page_at (pages.page_size p) k) in
         let same : Each (λ x. x.1 ≡ n) xs = Each-map _ (λ x. x.1 ≡ n) (λ x b. b.0) xs (Each-right _ free xs holds.blocks) in
         let sum = same-sum n xs same in
         let all = holds.all in let high = holds.fresh_high in
         let parts : (length free + length xs) * n ≡ length free * n + length xs * n = distribute (length free) (length xs) n in
         record {
           sum = omega (arith, sum, all, high, parts);
-          each = Each-map (λ x. x.1 ≡ n) (λ x. x.1 ≤ p.small) (λ x e. omega (arith, e, most)) xs same;
+          each = Each-map (λ x. x.1 ≡ n) (λ x. x.1 ≤ greatest_block p) (λ x e. omega (arith, e, most)) xs same;
         }
       where
         distribute : (a b c : ℕ) → (a + b) * c ≡ a * c + b * c
@@ -112,29 +115,29 @@ page-words p m live waiting k h below =
 
 -- the blocks in the page, among all
 pub record UnitFew (old : Old) (unit : ℕ) (live : List Extent) : Type 0 where
-  pub sum : sum_by (where_passes (in_page old.pages.page unit)) live ≤ old.pages.page
-  pub each : Each (λ x. in_page old.pages.page unit x ≡ true → x.1 ≤ old.small) live
+  pub sum : sum_by (where_passes (in_page (page_size old) unit)) live ≤ page_size old
+  pub each : Each (λ x. in_page (page_size old) unit x ≡ true → x.1 ≤ old.small) live
 
 pub page_few : (old : Old) (m : Memory) (live : List Extent) (unit : ℕ) (rest : List ℕ) → HasBlocks old m live (unit ∷ rest) → PageUnit old unit → UnitFew old unit live
 page_few old m live unit rest h p =
-    let test : Extent → Bool = in_page old.pages.page unit in
+    let test : Extent → Bool = in_page (page_size old) unit in
     let one = page-words old.pages m h.small h.waiting_pages p.number h.in_pages p.below in
-    let here : PageWords old.pages.page old.pages.small (filter (in_page old.pages.page unit) h.small) =
-    subst (λ (u : ℕ). PageWords old.pages.page old.pages.small (filter (in_page old.pages.page u) h.small)) (sym p.is) one in
-    let out : Each (λ x. in_page old.pages.page unit x ≡ false) h.large = Each-map (λ x. 1099511627776 ≤ x.0) (λ x. in_page old.pages.page unit x ≡ false) (λ x l. above x l) h.large
+    let here : PageWords (page_size old) (greatest_block old.pages) (filter (in_page (page_size old) unit) h.small) =
+    subst (λ (u : ℕ). PageWords (page_size old) (greatest_block old.pages) (filter (in_page (page_size old) u) h.small)) (sym p.is) one in
+    let out : Each (λ x. in_page (page_size old) unit x ≡ false) h.large = Each-map (λ x. 1099511627776 ≤ x.0) (λ x. in_page (page_size old) unit x ≡ false) (λ x l. above x l) h.large
     (larges-above old.large m h.large h.waiting_blocks h.in_larges) in
-    let moved = sum_by-IsPermutation (where_passes (in_page old.pages.page unit)) (h.small ++ h.large) live h.same in
-    let joined = sum_append (where_passes (in_page old.pages.page unit)) h.small h.large in
-    let smalls = sum-where (in_page old.pages.page unit) h.small in
-    let none = sum_none (in_page old.pages.page unit) h.large out in
+    let moved = sum_by-IsPermutation (where_passes (in_page (page_size old) unit)) (h.small ++ h.large) live h.same in
+    let joined = sum_append (where_passes (in_page (page_size old) unit)) h.small h.large in
+    let smalls = sum-where (in_page (page_size old) unit) h.small in
+    let none = sum_none (in_page (page_size old) unit) h.large out in
     let most = here.sum in
     record {
       sum = omega (arith, moved, joined, smalls, none, most);
-      each = HasBlocks-each (λ x. in_page old.pages.page unit x ≡ true → x.1 ≤ old.small) old m live (unit ∷ rest) h
-          (Each-map (λ x. in_page old.pages.page unit x ≡ true → x.1 ≤ old.pages.small) (λ x. in_page old.pages.page unit x ≡ true → x.1 ≤ old.small)
-          (λ x f t. let l = f t in let g = h.greatest in omega (arith, l, g)) h.small (each-passed (λ x. x.1 ≤ old.pages.small) (in_page old.pages.page unit) h.small here.each))
-          (Each-map (λ x. in_page old.pages.page unit x ≡ false) (λ x. in_page old.pages.page unit x ≡ true → x.1 ≤ old.small) (λ x e t. absurd (let no : ⊥ = cc in no)) h.large out);
+      each = HasBlocks-each (λ x. in_page (page_size old) unit x ≡ true → x.1 ≤ old.small) old m live (unit ∷ rest) h
+          (Each-map (λ x. in_page (page_size old) unit x ≡ true → x.1 ≤ greatest_block old.pages) (λ x. in_page (page_size old) unit x ≡ true → x.1 ≤ old.small)
+          (λ x f t. let l = f t in let g = h.greatest in omega (arith, l, g)) h.small (each-passed (λ x. x.1 ≤ greatest_block old.pages) (in_page (page_size old) unit) h.small here.each))
+          (Each-map (λ x. in_page (page_size old) unit x ≡ false) (λ x. in_page (page_size old) unit x ≡ true → x.1 ≤ old.small) (λ x e t. absurd (let no : ⊥ = cc in no)) h.large out);
     }
   where
-    above : (x : Extent) → 1099511627776 ≤ x.0 → in_page old.pages.page unit x ≡ false
+    above : (x : Extent) → 1099511627776 ≤ x.0 → in_page (page_size old) unit x ≡ false
     above x high = let end = p.end in grind (arith, nat_tests)

@@ -27,6 +27,8 @@ use Rattle.old_space.proofs.CallLaws.{kept-small}
 use Rattle.old_space.proofs.Narrow.{outside-pages}
 use Rattle.old_space.proofs.WaitLaws.{contains-in, unit-page, unit-large}
 use Rattle.old_space.proofs.UnitLaws.{only-live}
+use Rattle.size_pages.specs.HasBlocks.{greatest_block}
+use Rattle.old_space.specs.HasBlocks.{page_size}
 
 -- neither part has a unit that waits
 
@@ -67,12 +69,12 @@ told xs (y ∷ ys) f = (f y.0 (0, omega arith, refl), told xs ys (λ a h. f a (C
 small-place : (x : Extent) → x.0 + x.1 ≤ 1099511627776 → 2 ≤ x.1 → x.0 < 1099511627776
 small-place x below wide = omega arith
 
-page-told : (new : Old) (a : ℕ) (ps bs : List ℕ) → IsIn (page_of new.pages.page a) ps → a < 1099511627776 → Contains (ps ++ bs) (unit_of new a)
+page-told : (new : Old) (a : ℕ) (ps bs : List ℕ) → IsIn (page_of (page_size new) a) ps → a < 1099511627776 → Contains (ps ++ bs) (unit_of new a)
 page-told new a ps bs is low =
-    subst (λ (u : ℕ). Contains (ps ++ bs) u) (sym (unit-page new a low)) (Contains-append_left ps bs (page_of new.pages.page a) (contains-in (page_of new.pages.page a) ps is))
+    subst (λ (u : ℕ). Contains (ps ++ bs) u) (sym (unit-page new a low)) (Contains-append_left ps bs (page_of (page_size new) a) (contains-in (page_of (page_size new) a) ps is))
 
 pub begun : (old : Old) (p : Pages) (l : Large) (m now : Memory) (live : List Extent)
-    → ((small : List Extent) → pages.HasBlocks old.pages m small [] → page_calls.BeginsSweep p now small) → IsInArenas m now → p.small ≡ old.pages.small
+    → ((small : List Extent) → pages.HasBlocks old.pages m small [] → page_calls.BeginsSweep p now small) → IsInArenas m now → greatest_block p ≡ greatest_block old.pages
     → ((large : List Extent) → larges.HasBlocks old.large now large [] → larges.HasBlocks l now large (places_of (larges_of now)))
     → HasBlocks old m live [] → BeginsSweep (record { pages = p; large = l; small = old.small }) now live
 begun old p l m now live pages_begin arenas size larges_begin h =
@@ -97,7 +99,7 @@ begun old p l m now live pages_begin arenas size larges_begin h =
       };
       every = Each-same (λ x. Contains (first.waiting ++ blocks) (unit_of new x.0)) (h.small ++ h.large) live whole
           (Each-join (λ x. Contains (first.waiting ++ blocks) (unit_of new x.0)) h.small h.large
-          (Each-both (λ x. IsIn (page_of p.page x.0) first.waiting) (IsBlock now p.small) (λ x. Contains (first.waiting ++ blocks) (unit_of new x.0))
+          (Each-both (λ x. IsIn (page_of (pages.page_size p) x.0) first.waiting) (IsBlock now (greatest_block p)) (λ x. Contains (first.waiting ++ blocks) (unit_of new x.0))
           (λ x is block. page-told new x.0 first.waiting blocks is (small-place x block.high block.wide)) h.small first.every
           (pages-each p now h.small first.waiting first.fits))
           (Each-both (λ x. Contains blocks x.0) (λ x. 1099511627776 ≤ x.0) (λ x. Contains (first.waiting ++ blocks) (unit_of new x.0))
@@ -120,7 +122,7 @@ begun old p l m now live pages_begin arenas size larges_begin h =
 
 -- the large blocks change no word
 pub begun-last : (old : Old) (p : Pages) (l : Large) (m now last : Memory) (live : List Extent)
-    → ((small : List Extent) → pages.HasBlocks old.pages m small [] → page_calls.BeginsSweep p now small) → IsInArenas m now → p.small ≡ old.pages.small
+    → ((small : List Extent) → pages.HasBlocks old.pages m small [] → page_calls.BeginsSweep p now small) → IsInArenas m now → greatest_block p ≡ greatest_block old.pages
     → ((large : List Extent) → larges.HasBlocks old.large now large [] → larges.HasBlocks l last large (places_of (larges_of now))) → last ≡ now
     → HasBlocks old m live [] → BeginsSweep (record { pages = p; large = l; small = old.small }) last live
 begun-last old p l m now last live pages_begin arenas size larges_begin same h =

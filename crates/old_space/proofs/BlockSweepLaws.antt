@@ -33,6 +33,7 @@ use Rattle.old_space.specs.declared.Old.{Old}
 use Rattle.old_space.proofs.Narrow.{kept-below}
 use Rattle.old_space.proofs.PartLaws.{pages-kept, pages-each, pages-below}
 use Rattle.old_space.proofs.SweepLaws.{headed-swept, heads-kept, headed-parts, filter-none, filter-all, filter-both, freed-alike}
+use Rattle.size_pages.specs.HasBlocks.{greatest_block}
 
 -- the block that is swept, among the others
 
@@ -137,7 +138,7 @@ heads-left old m after unit large left e heads wide words =
 swept-parts : (old : Old) (l : Large) (m after : Memory) (births : List ℕ) (live small large left dead : List Extent) (unit : ℕ) (rest : List ℕ)
     → 1099511627776 ≤ unit → pages.HasBlocks old.pages m small [] → larges.HasBlocks old.large m large (unit ∷ rest)
     → larges.HasBlocks l after left rest → KeepsOutside 1099511627776 9223372036854775808 m after → after.next_arena ≡ m.next_arena
-    → after.arena_words ≡ m.arena_words → IsPermutation (small ++ large) live → old.pages.small ≡ old.small → Each (IsHeaded m) live
+    → after.arena_words ≡ m.arena_words → IsPermutation (small ++ large) live → greatest_block old.pages ≡ old.small → Each (IsHeaded m) live
     → filter (λ x. not (dies old m unit x)) large ≡ left → filter (dies old m unit) large ≡ dead
     → IsPermutation (map (birth_in (word_in m)) dead) births
     → Each (λ x. (a : ℕ) → IsInside x a → word_in after a ≡ swept_word old m unit x a) left
@@ -146,7 +147,7 @@ swept-parts old l m after births live small large left dead unit rest low in_pag
     let new : Old = record { pages = old.pages; large = l; small = old.small } in
     let whole = same-permutation (small ++ large) live perm in
     let below = pages-below old.pages m small [] in_pages in
-    let wide : Each (λ x. 2 ≤ x.1) small = Each-map (IsBlock m old.pages.small) (λ x. 2 ≤ x.1) (λ x b. b.wide) small (pages-each old.pages m small [] in_pages) in
+    let wide : Each (λ x. 2 ≤ x.1) small = Each-map (IsBlock m (greatest_block old.pages)) (λ x. 2 ≤ x.1) (λ x b. b.wide) small (pages-each old.pages m small [] in_pages) in
     let other : Each (λ x. x.0 ≢ unit) small =
     Each-both (λ x. x.0 + x.1 ≤ 1099511627776) (λ x. 2 ≤ x.1) (λ x. x.0 ≢ unit) (λ x b w. λ same. omega (arith, same)) small below wide in
     let kept_small : filter (λ x. not (dies old m unit x)) small ≡ small =
@@ -229,7 +230,7 @@ kept-words old m unit large f there other =
 pub swept-kept : (old : Old) (l : Large) (m after : Memory) (births : List ℕ) (live small large : List Extent) (unit : ℕ) (rest : List ℕ)
     → is_kept m unit ≡ true → pages.HasBlocks old.pages m small [] → larges.HasBlocks old.large m large (unit ∷ rest)
     → larges.HasBlocks l after (left_over m unit large) rest → after ≡ swept m unit → births ≡ freed_births m unit
-    → KeepsOutside 1099511627776 9223372036854775808 m after → IsPermutation (small ++ large) live → old.pages.small ≡ old.small
+    → KeepsOutside 1099511627776 9223372036854775808 m after → IsPermutation (small ++ large) live → greatest_block old.pages ≡ old.small
     → Each (IsHeaded m) live → SweepsUnit old m (record { pages = old.pages; large = l; small = old.small }) after births live unit rest
 swept-kept old l m after births live small large unit rest k in_pages in_larges now is told outside perm greatest headed =
     let f = first-large old.large m large unit rest in_larges in
@@ -254,7 +255,7 @@ swept-kept old l m after births live small large unit rest k in_pages in_larges 
 pub swept-freed : (old : Old) (l : Large) (m after : Memory) (births : List ℕ) (live small large : List Extent) (unit : ℕ) (rest : List ℕ)
     → is_kept m unit ≡ false → IsInOrder m → pages.HasBlocks old.pages m small [] → larges.HasBlocks old.large m large (unit ∷ rest)
     → larges.HasBlocks l after (left_over m unit large) rest → after ≡ swept m unit → births ≡ freed_births m unit
-    → KeepsOutside 1099511627776 9223372036854775808 m after → IsPermutation (small ++ large) live → old.pages.small ≡ old.small
+    → KeepsOutside 1099511627776 9223372036854775808 m after → IsPermutation (small ++ large) live → greatest_block old.pages ≡ old.small
     → Each (IsHeaded m) live → SweepsUnit old m (record { pages = old.pages; large = l; small = old.small }) after births live unit rest
 swept-freed old l m after births live small large unit rest k o in_pages in_larges now is told outside perm greatest headed =
     let f = first-large old.large m large unit rest in_larges in
@@ -288,7 +289,7 @@ swept-freed old l m after births live small large unit rest k o in_pages in_larg
 pub swept-block : (old : Old) (l : Large) (m after : Memory) (births : List ℕ) (live small large : List Extent) (unit : ℕ) (rest : List ℕ)
     → IsInOrder m → pages.HasBlocks old.pages m small [] → larges.HasBlocks old.large m large (unit ∷ rest)
     → larges.HasBlocks l after (left_over m unit large) rest → after ≡ swept m unit → births ≡ freed_births m unit
-    → KeepsOutside 1099511627776 9223372036854775808 m after → IsPermutation (small ++ large) live → old.pages.small ≡ old.small
+    → KeepsOutside 1099511627776 9223372036854775808 m after → IsPermutation (small ++ large) live → greatest_block old.pages ≡ old.small
     → Each (IsHeaded m) live → SweepsUnit old m (record { pages = old.pages; large = l; small = old.small }) after births live unit rest
 swept-block old l m after births live small large unit rest o in_pages in_larges now is told outside perm greatest headed =
     elim (cases_Bool (is_kept m unit)) [

@@ -15,9 +15,10 @@ use Rattle.old_space.specs.declared.Old.{Old}
 use Rattle.old_space.proofs.Narrow.{kept-below, kept-above}
 use Rattle.old_space.proofs.PartLaws.{pages-kept, larges-kept, pages-below}
 use Rattle.old_space.proofs.JoinLaws.{larges-above}
+use Rattle.size_pages.specs.HasBlocks.{greatest_block}
 
 -- no block yet
-pub fresh : (old : Old) (m : Memory) → pages.HasBlocks old.pages m [] [] → larges.HasBlocks old.large m [] [] → old.pages.small ≡ old.small
+pub fresh : (old : Old) (m : Memory) → pages.HasBlocks old.pages m [] [] → larges.HasBlocks old.large m [] [] → greatest_block old.pages ≡ old.small
     → HasBlocks old m [] []
 fresh old m p l e = record {
   small = [];
@@ -34,7 +35,7 @@ fresh old m p l e = record {
 -- a block of a page more
 pub taken-small : (old : Old) (p : Pages) (m now : Memory) (x : Extent) (live : List Extent) (waiting : List ℕ)
     → ((small : List Extent) (w : List ℕ) → pages.HasBlocks old.pages m small w → pages.HasBlocks p now (x ∷ small) w)
-    → KeepsOutside 4294967296 1099511627776 m now → p.small ≡ old.pages.small → HasBlocks old m live waiting
+    → KeepsOutside 4294967296 1099511627776 m now → greatest_block p ≡ greatest_block old.pages → HasBlocks old m live waiting
     → HasBlocks (record { pages = p; large = old.large; small = old.small }) now (x ∷ live) waiting
 taken-small old p m now x live waiting taken outside size h =
     let before = same-permutation (h.small ++ h.large) live h.same in
@@ -75,7 +76,7 @@ taken-large old l m now x live waiting taken outside next words h =
 -- nothing changes in the pages
 pub same-small : (old : Old) (p : Pages) (m now : Memory) (live : List Extent) (waiting : List ℕ)
     → ((small : List Extent) (w : List ℕ) → pages.HasBlocks old.pages m small w → pages.HasBlocks p now small w)
-    → KeepsOutside 4294967296 1099511627776 m now → p.small ≡ old.pages.small → HasBlocks old m live waiting
+    → KeepsOutside 4294967296 1099511627776 m now → greatest_block p ≡ greatest_block old.pages → HasBlocks old m live waiting
     → HasBlocks (record { pages = p; large = old.large; small = old.small }) now live waiting
 same-small old p m now live waiting kept outside size h = record {
   small = h.small;

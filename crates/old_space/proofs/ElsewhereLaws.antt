@@ -24,6 +24,7 @@ use Rattle.old_space.specs.declared.Old.{Old}
 use Rattle.old_space.proofs.PartLaws.{waiting-below}
 use Rattle.old_space.proofs.JoinLaws.{larges-above}
 use Rattle.old_space.proofs.WaitLaws.{each-contains, places-each, blocks-above, page-low}
+use Rattle.old_space.specs.HasBlocks.{page_size}
 
 -- a place lies in its page
 page-high : (size a : ℕ) → 0 < size → 4294967296 ≤ a → a < page_of size a + size
@@ -33,9 +34,9 @@ page-high size a some low =
     omega arith
 
 pub small-elsewhere : (old new : Old) (m now : Memory) (n : ℕ) (r : Result ℕ AllocError) (live : List Extent) (waiting : List ℕ)
-    → new.pages.page ≡ old.pages.page
+    → page_size new ≡ page_size old
     → ((small : List Extent) (w : List ℕ) → pages.HasBlocks old.pages m small w → IfOk r (λ a. pages.HasBlocks new.pages now ((a, n) ∷ small) w))
-    → ((small : List Extent) (w : List ℕ) → pages.HasBlocks old.pages m small w → IfOk r (IsInNone old.pages.page w))
+    → ((small : List Extent) (w : List ℕ) → pages.HasBlocks old.pages m small w → IfOk r (IsInNone (page_size old) w))
     → HasBlocks old m live waiting → IfOk r (IsElsewhere new waiting)
 small-elsewhere old new m now n (Err e) live waiting size taken none h = tt
 small-elsewhere old new m now n (Ok a) live waiting size taken none h = λ told.
@@ -43,14 +44,14 @@ small-elsewhere old new m now n (Ok a) live waiting size taken none h = λ told.
     let high = b.high in let wide = b.wide in let from = b.low in
     let some = h.in_pages.blocks.size_low in
     let is : nat_lt a 1099511627776 ≡ true = grind (arith, nat_tests) in
-    let u = page_of old.pages.page a in
-    let unit : unit_of new a ≡ u = (let e : unit_of new a ≡ page_of new.pages.page a = rw is refl in e) ∙ ap (λ (k : ℕ). page_of k a) size in
-    let low : u ≤ a = page-low old.pages.page a (omega arith) (omega arith) in
-    let end : a < u + old.pages.page = page-high old.pages.page a (omega arith) (omega arith) in
+    let u = page_of (page_size old) a in
+    let unit : unit_of new a ≡ u = (let e : unit_of new a ≡ page_of (page_size new) a = rw is refl in e) ∙ ap (λ (k : ℕ). page_of k a) size in
+    let low : u ≤ a = page-low (page_size old) a (omega arith) (omega arith) in
+    let end : a < u + page_size old = page-high (page_size old) a (omega arith) (omega arith) in
     let here : Contains (h.waiting_pages ++ h.waiting_blocks) u =
     subst (λ (ws : List ℕ). Contains ws u) h.waits (subst (λ (k : ℕ). Contains waiting k) unit told) in
     elim (Contains-append_cases h.waiting_pages h.waiting_blocks u here) [
-      | inl p ↦ elim (each-contains (λ q. (a < q) ⊎ (q + old.pages.page ≤ a)) u h.waiting_pages (none h.small h.waiting_pages h.in_pages) p) [
+      | inl p ↦ elim (each-contains (λ q. (a < q) ⊎ (q + page_size old ≤ a)) u h.waiting_pages (none h.small h.waiting_pages h.in_pages) p) [
         | inl x ↦ omega arith
         | inr x ↦ omega arith
       ]

@@ -23,6 +23,7 @@ use Rattle.old_space.specs.declared.Old.{Old}
 use Rattle.old_space.proofs.PartLaws.{pages-kept, larges-kept, pages-below, waiting-below}
 use Rattle.old_space.proofs.JoinLaws.{larges-above, HasBlocks-first}
 use Rattle.old_space.proofs.Narrow.{kept-below, kept-above}
+use Rattle.size_pages.specs.HasBlocks.{greatest_block}
 
 -- changes of words within the arenas
 pub outside-arenas : (m now : Memory) → IsInArenas m now → KeepsOutside 4294967296 1099511627776 m now
@@ -101,7 +102,7 @@ large-others x small large live s same =
 
 pub given-small : (old : Old) (p : Pages) (m now : Memory) (a n : ℕ) (live : List Extent) (waiting : List ℕ) → a < 1099511627776
     → ((others : List Extent) (w : List ℕ) → pages.HasBlocks old.pages m ((a, n) ∷ others) w → pages.HasBlocks p now others w)
-    → IsInArenas m now → p.small ≡ old.pages.small → HasBlocks old m ((a, n) ∷ live) waiting
+    → IsInArenas m now → greatest_block p ≡ greatest_block old.pages → HasBlocks old m ((a, n) ∷ live) waiting
     → HasBlocks (record { pages = p; large = old.large; small = old.small }) now live (still_waiting a waiting)
 given-small old p m now a n live waiting low given arenas size h =
     let s = in-small old m (a, n) live waiting h low in

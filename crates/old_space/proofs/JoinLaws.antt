@@ -15,6 +15,7 @@ use Rattle.old_space.specs.HasBlocks.{HasBlocks, IsBlock}
 use Rattle.old_space.specs.declared.Old.{Old}
 use Rattle.old_space.proofs.Narrow.{narrow}
 use Rattle.old_space.proofs.PartLaws.{pages-each, pages-below, arenas-below}
+use Rattle.size_pages.specs.HasBlocks.{greatest_block}
 
 -- outside the blocks of one part, a place of that part is outside them all
 
@@ -136,7 +137,7 @@ HasBlocks-apart old m live waiting h =
 pub HasBlocks-blocks : (old : Old) (m : Memory) (live : List Extent) (waiting : List ℕ) → HasBlocks old m live waiting → Each (IsBlock m) live
 HasBlocks-blocks old m live waiting h =
     HasBlocks-each (IsBlock m) old m live waiting h
-    (Each-map (page_laws.IsBlock m old.pages.small) (IsBlock m) (λ x b. let l = b.low in record { lies = b.lies; low = omega arith; wide = b.wide }) h.small
+    (Each-map (page_laws.IsBlock m (greatest_block old.pages)) (IsBlock m) (λ x b. let l = b.low in record { lies = b.lies; low = omega arith; wide = b.wide }) h.small
     (pages-each old.pages m h.small h.waiting_pages h.in_pages))
     (large-blocks old.large m h.large h.waiting_blocks h.in_larges)
 

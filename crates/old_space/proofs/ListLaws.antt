@@ -15,6 +15,7 @@ use Rattle.old_space.specs.Headers.{HasHeaders, StandsWithHeaders}
 use Rattle.old_space.specs.declared.Old.{Old}
 use Rattle.old_space.proofs.PartLaws.{pages-each}
 use Rattle.old_space.proofs.JoinLaws.{larges-above}
+use Rattle.size_pages.specs.HasBlocks.{greatest_block}
 
 -- what the pages ask
 pub small-headers : (old : Old) (m : Memory) (live : List Extent) (waiting : List ℕ) (h : HasHeaders old m live waiting)
@@ -66,7 +67,7 @@ listed-both old m before middle after live waiting first second h =
       rising = rise-join one.appended two.found one.rising
           (rise-place two.found two.rising (Each-same (λ x. 2 ≤ x.1) b.large two.found large-same (large_laws.HasBlocks-wide old.large m b.large b.waiting_blocks b.in_larges)))
           (Each-same (λ x. x.0 < 1099511627776) b.small one.appended small-same
-          (Each-map (IsBlock m old.pages.small) (λ x. x.0 < 1099511627776) (λ x k. let high = k.high in let wide = k.wide in omega arith) b.small
+          (Each-map (IsBlock m (greatest_block old.pages)) (λ x. x.0 < 1099511627776) (λ x k. let high = k.high in let wide = k.wide in omega arith) b.small
           (pages-each old.pages m b.small b.waiting_pages b.in_pages)))
           (Each-same (λ x. 1099511627776 ≤ x.0) b.large two.found large-same (larges-above old.large m b.large b.waiting_blocks b.in_larges));
     }

@@ -14,6 +14,7 @@ use Rattle.large_objects.specs.Large as larges
 use Rattle.large_objects.specs.declared.Large.{Large}
 use Rattle.large_objects.proofs.LargeLaws.{blocks-as}
 use Rattle.old_space.proofs.Narrow.{narrow, whole}
+use Rattle.size_pages.specs.HasBlocks.{greatest_block, page_count}
 
 each-split : (P : Extent → Type 0) (all front xs : List Extent) → all ≡ front ++ xs
     → ((fs ls : List Extent) (x : Extent) → all ≡ fs ++ x ∷ ls → P x) → Each P xs
@@ -23,16 +24,16 @@ each-split P all front (x ∷ xs) e f =
 
 -- each block of a page lies in one block of the memory, below the large blocks
 pub pages-each : (p : Pages) (m : Memory) (small : List Extent) (waiting : List ℕ) → pages.HasBlocks p m small waiting
-    → Each (IsBlock m p.small) small
+    → Each (IsBlock m (greatest_block p)) small
 pages-each p m small waiting h =
-    each-split (IsBlock m p.small) small [] small refl
+    each-split (IsBlock m (greatest_block p)) small [] small refl
     (λ fs ls x e. HasBlocks_first p m x.0 x.1 (fs ++ ls) waiting
     (HasBlocks_front p m fs ls x waiting (subst (λ (xs : List Extent). pages.HasBlocks p m xs waiting) e h)))
 
 pub pages-below : (p : Pages) (m : Memory) (small : List Extent) (waiting : List ℕ) → pages.HasBlocks p m small waiting
     → Each (λ x. x.0 + x.1 ≤ 1099511627776) small
 pages-below p m small waiting h =
-    Each-map (IsBlock m p.small) (λ x. x.0 + x.1 ≤ 1099511627776) (λ x b. b.high) small (pages-each p m small waiting h)
+    Each-map (IsBlock m (greatest_block p)) (λ x. x.0 + x.1 ≤ 1099511627776) (λ x b. b.high) small (pages-each p m small waiting h)
 
 pub arenas-below : (p : Pages) (m : Memory) (small : List Extent) (waiting : List ℕ) → pages.HasBlocks p m small waiting
     → m.next_arena ≤ 1099511627776
@@ -69,4 +70,4 @@ waiting-below p m small waiting h =
     let wide = h.blocks.size_low in
     let below = h.arenas.below in
     subst (λ (xs : List ℕ). EachPlace (λ q. q < 1099511627776) xs) h.lists.waits
-    (waiting-each p.page p.count 1099511627776 (h.lists.lists 1) (omega arith) (omega arith) (h.lists.pages 1))
+    (waiting-each (pages.page_size p) (page_count p) 1099511627776 (h.lists.lists 1) (omega arith) (omega arith) (h.lists.pages 1))

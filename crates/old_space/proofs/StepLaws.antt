@@ -27,14 +27,16 @@ use Rattle.old_space.proofs.GiveLaws.{outside-arenas}
 use Rattle.old_space.proofs.ListLaws.{small-headers}
 use Rattle.old_space.proofs.SweepLaws.{swept-page, headed-parts}
 use Rattle.old_space.proofs.BlockSweepLaws.{swept-block}
+use Rattle.size_pages.specs.HasBlocks.{greatest_block, waiting_page_count}
+use Rattle.old_space.specs.HasBlocks.{page_size}
 
 -- a page's turn
 
 some-page : (old : Old) (m : Memory) (small large live : List Extent) (unit : ℕ) (rest wp wb : List ℕ) (p : Pages) (after : Memory) (before now births : List ℕ)
-    → 0 < old.pages.waiting
-    → ((s : List Extent) (page : ℕ) (w : List ℕ) → headers.HasHeaders old.pages m s (page ∷ w) → page_sweep.SweepsPage p m after old.pages.page s page w before now)
-    → now ≡ before ++ births → IsInArenas m after → p.small ≡ old.pages.small → pages.HasBlocks old.pages m small wp
-    → larges.HasBlocks old.large m large wb → IsPermutation (small ++ large) live → old.pages.small ≡ old.small → Each (IsHeaded m) live
+    → 0 < waiting_page_count old.pages
+    → ((s : List Extent) (page : ℕ) (w : List ℕ) → headers.HasHeaders old.pages m s (page ∷ w) → page_sweep.SweepsPage p m after (page_size old) s page w before now)
+    → now ≡ before ++ births → IsInArenas m after → greatest_block p ≡ greatest_block old.pages → pages.HasBlocks old.pages m small wp
+    → larges.HasBlocks old.large m large wb → IsPermutation (small ++ large) live → greatest_block old.pages ≡ old.small → Each (IsHeaded m) live
     → unit ∷ rest ≡ wp ++ wb → SweepsUnit old m (record { pages = p; large = old.large; small = old.small }) after births live unit rest
 some-page old m small large live unit rest [] wb p after before now births some contract appended arenas size in_pages in_larges perm greatest headed e =
     let none = in_pages.waits in absurd (omega (arith, none))
@@ -49,8 +51,8 @@ some-page old m small large live unit rest (u ∷ w) wb p after before now birth
     subst (λ (k : ℕ). SweepsUnit old m new after births live k rest) first
     (subst (λ (ws : List ℕ). SweepsUnit old m new after births live u ws) others here)
 
-page-lowest : (old : Old) (p : Pages) (m after : Memory) (before now births : List ℕ) → 0 < old.pages.waiting
-    → ((s : List Extent) (page : ℕ) (w : List ℕ) → headers.HasHeaders old.pages m s (page ∷ w) → page_sweep.SweepsPage p m after old.pages.page s page w before now)
+page-lowest : (old : Old) (p : Pages) (m after : Memory) (before now births : List ℕ) → 0 < waiting_page_count old.pages
+    → ((s : List Extent) (page : ℕ) (w : List ℕ) → headers.HasHeaders old.pages m s (page ∷ w) → page_sweep.SweepsPage p m after (page_size old) s page w before now)
     → now ≡ before ++ births → IsInArenas m after → pages.KeepsSizes old.pages p
     → SweepsLowest old m (record { pages = p; large = old.large; small = old.small }) after births
 page-lowest old p m after before now births some contract appended arenas sizes = record {
@@ -64,14 +66,14 @@ page-lowest old p m after before now births some contract appended arenas sizes 
 }
 
 -- the page that is to be swept
-pub page-ready : (old : Old) (m : Memory) → StandsWithHeaders old m → 0 < old.pages.waiting → page_sweep.CanSweep old.pages m
+pub page-ready : (old : Old) (m : Memory) → StandsWithHeaders old m → 0 < waiting_page_count old.pages → page_sweep.CanSweep old.pages m
 page-ready old m s some = go s.has.blocks.waiting_pages s.has.blocks.in_pages (small-headers old m s.live s.waiting s.has) where
   go : (wp : List ℕ) → pages.HasBlocks old.pages m s.has.blocks.small wp → headers.HasHeaders old.pages m s.has.blocks.small wp → page_sweep.CanSweep old.pages m
   go [] f h = let none = f.waits in absurd (omega (arith, none))
   go (u ∷ w) f h = record { live = s.has.blocks.small; page = u; rest = w; has = h }
 
-pub page-step : {T : Type 0} (old : Old) (p : Pages) (m after : Memory) (before now : List ℕ) (r : Result T AllocError) → StandsWithHeaders old m → 0 < old.pages.waiting
-    → ((s : List Extent) (page : ℕ) (w : List ℕ) → headers.HasHeaders old.pages m s (page ∷ w) → OnOk r (page_sweep.SweepsPage p m after old.pages.page s page w before now))
+pub page-step : {T : Type 0} (old : Old) (p : Pages) (m after : Memory) (before now : List ℕ) (r : Result T AllocError) → StandsWithHeaders old m → 0 < waiting_page_count old.pages
+    → ((s : List Extent) (page : ℕ) (w : List ℕ) → headers.HasHeaders old.pages m s (page ∷ w) → OnOk r (page_sweep.SweepsPage p m after (page_size old) s page w before now))
     → IsInArenas m after → pages.KeepsSizes old.pages p
     → OnOk r ((births : List ℕ) × (now ≡ before ++ births) × SweepsLowest old m (record { pages = p; large = old.large; small = old.small }) after births)
 page-step old p m after before now (Ok x) s some contract arenas sizes =
@@ -81,8 +83,8 @@ page-step old p m after before now (Ok x) s some contract arenas sizes =
 page-step old p m after before now (Err e) s some contract arenas sizes = tt
 
 -- the units that are left
-pub page-less : {T : Type 0} (old : Old) (p : Pages) (m after : Memory) (before now : List ℕ) (r : Result T AllocError) → StandsWithHeaders old m → 0 < old.pages.waiting
-    → ((s : List Extent) (page : ℕ) (w : List ℕ) → headers.HasHeaders old.pages m s (page ∷ w) → OnOk r (page_sweep.SweepsPage p m after old.pages.page s page w before now))
+pub page-less : {T : Type 0} (old : Old) (p : Pages) (m after : Memory) (before now : List ℕ) (r : Result T AllocError) → StandsWithHeaders old m → 0 < waiting_page_count old.pages
+    → ((s : List Extent) (page : ℕ) (w : List ℕ) → headers.HasHeaders old.pages m s (page ∷ w) → OnOk r (page_sweep.SweepsPage p m after (page_size old) s page w before now))
     → OnOk r (units_left (record { pages = p; large = old.large; small = old.small }) + 1 ≡ units_left old)
 page-less old p m after before now (Ok x) s some contract =
     let can = page-ready old m s some in
@@ -133,12 +135,12 @@ block-error old l (Err x) e = ap (λ (q : Large). let new : Old = record { pages
 -- a large block's turn
 
 some-block : (old : Old) (m : Memory) (small large live : List Extent) (unit : ℕ) (rest wp wb : List ℕ) (l : Large) (after : Memory) (before now births : List ℕ)
-    → old.pages.waiting ≡ 0 → IsInOrder m
+    → waiting_page_count old.pages ≡ 0 → IsInOrder m
     → ((s : List Extent) (a : ℕ) (w : List ℕ) → larges.HasBlocks old.large m s (a ∷ w) → larges.HasBlocks l after (left_over m a s) w)
     → ((s : List Extent) (a : ℕ) (w : List ℕ) → larges.HasBlocks old.large m s (a ∷ w) → after ≡ swept m a)
     → ((s : List Extent) (a : ℕ) (w : List ℕ) → larges.HasBlocks old.large m s (a ∷ w) → now ≡ before ++ freed_births m a)
     → now ≡ before ++ births → KeepsOutside 1099511627776 9223372036854775808 m after → pages.HasBlocks old.pages m small wp
-    → larges.HasBlocks old.large m large wb → IsPermutation (small ++ large) live → old.pages.small ≡ old.small → Each (IsHeaded m) live
+    → larges.HasBlocks old.large m large wb → IsPermutation (small ++ large) live → greatest_block old.pages ≡ old.small → Each (IsHeaded m) live
     → unit ∷ rest ≡ wp ++ wb → SweepsUnit old m (record { pages = old.pages; large = l; small = old.small }) after births live unit rest
 some-block old m small large live unit rest (u ∷ w) wb l after before now births none o blocks space told appended outside in_pages in_larges perm greatest headed e =
     let some = in_pages.waits in absurd (omega (arith, some, none))
@@ -158,7 +160,7 @@ next-in : (l : Large) (m : Memory) (live : List Extent) (waiting : List ℕ) →
 next-in l m live [] h some = (let none = h.counted in absurd (omega (arith, none)))
 next-in l m live (a ∷ w) h some = record { live = live; first = a; rest = w; blocks = h }
 
-pub block-next : (old : Old) (m : Memory) → StandsWithHeaders old m → old.pages.waiting ≡ 0 → 0 < units_left old → HasNext old.large m
+pub block-next : (old : Old) (m : Memory) → StandsWithHeaders old m → waiting_page_count old.pages ≡ 0 → 0 < units_left old → HasNext old.large m
 block-next old m s none some = next-in old.large m s.has.blocks.large s.has.blocks.waiting_blocks s.has.blocks.in_larges (omega (arith, none))
 
 -- no arena changes its words
@@ -166,7 +168,7 @@ swept-arenas : (m : Memory) (a : ℕ) → (swept m a).arena_words ≡ m.arena_wo
 swept-arenas m a = elim (cases_Bool (is_kept m a)) [ inl e ↦ rw e refl | inr e ↦ rw e refl ]
 
 pub block-step : {T : Type 0} (old : Old) (l : Large) (m after : Memory) (before now : List ℕ) (r : Result T AllocError) → StandsWithHeaders old m
-    → old.pages.waiting ≡ 0 → 0 < units_left old → IsInOrder m
+    → waiting_page_count old.pages ≡ 0 → 0 < units_left old → IsInOrder m
     → ((s : List Extent) (a : ℕ) (w : List ℕ) → larges.HasBlocks old.large m s (a ∷ w) → OnOk r (larges.HasBlocks l after (left_over m a s) w))
     → ((s : List Extent) (a : ℕ) (w : List ℕ) → larges.HasBlocks old.large m s (a ∷ w) → OnOk r (after ≡ swept m a))
     → ((s : List Extent) (a : ℕ) (w : List ℕ) → larges.HasBlocks old.large m s (a ∷ w) → OnOk r (now ≡ before ++ freed_births m a))
@@ -190,7 +192,7 @@ block-step old l m after before now (Ok x) s none some o blocks space told outsi
 block-step old l m after before now (Err e) s none some o blocks space told outside = tt
 
 pub block-less : {T : Type 0} (old : Old) (l : Large) (m after : Memory) (r : Result T AllocError) → StandsWithHeaders old m
-    → old.pages.waiting ≡ 0 → 0 < units_left old
+    → waiting_page_count old.pages ≡ 0 → 0 < units_left old
     → ((s : List Extent) (a : ℕ) (w : List ℕ) → larges.HasBlocks old.large m s (a ∷ w) → OnOk r (larges.HasBlocks l after (left_over m a s) w))
     → OnOk r (units_left (record { pages = old.pages; large = l; small = old.small }) + 1 ≡ units_left old)
 block-less old l m after (Ok x) s none some blocks =
@@ -200,6 +202,6 @@ block-less old l m after (Err e) s none some blocks = tt
 
 -- whose turn it is, by the number that the pages tell
 pub pages-told : (old : Old) (m : Memory) (n : ℕ) → StandsWithHeaders old m
-    → ((k : Memory) (live : List Extent) (w : List ℕ) → pages.HasBlocks old.pages k live w → n ≡ length w) → n ≡ old.pages.waiting
+    → ((k : Memory) (live : List Extent) (w : List ℕ) → pages.HasBlocks old.pages k live w → n ≡ length w) → n ≡ waiting_page_count old.pages
 pages-told old m n s told =
     let b = s.has.blocks in told m b.small b.waiting_pages b.in_pages ∙ sym b.in_pages.waits

@@ -32,6 +32,8 @@ use Rattle.old_space.proofs.Narrow.{kept-above}
 use Rattle.old_space.proofs.PartLaws.{larges-kept, waiting-below, pages-each}
 use Rattle.old_space.proofs.JoinLaws.{larges-above}
 use Rattle.old_space.proofs.GiveLaws.{outside-arenas}
+use Rattle.size_pages.specs.HasBlocks.{greatest_block, page_count}
+use Rattle.old_space.specs.HasBlocks.{page_size}
 
 -- headers stay headers
 
@@ -87,39 +89,39 @@ ends-each size count top (x ∷ xs) high all =
     (omega arith, ends-each size count top xs high all.1)
 
 pub waiting-ends : (p : Pages) (m : Memory) (small : List Extent) (waiting : List ℕ) → pages.HasBlocks p m small waiting
-    → EachPlace (λ q. q + p.page ≤ 1099511627776) waiting
+    → EachPlace (λ q. q + pages.page_size p ≤ 1099511627776) waiting
 waiting-ends p m small waiting h =
     let below = h.arenas.below in
-    subst (λ (xs : List ℕ). EachPlace (λ q. q + p.page ≤ 1099511627776) xs) h.lists.waits
-    (ends-each p.page p.count 1099511627776 (h.lists.lists 1) (omega arith) (h.lists.pages 1))
+    subst (λ (xs : List ℕ). EachPlace (λ q. q + pages.page_size p ≤ 1099511627776) xs) h.lists.waits
+    (ends-each (pages.page_size p) (page_count p) 1099511627776 (h.lists.lists 1) (omega arith) (h.lists.pages 1))
 
-page-unit : (old : Old) (unit : ℕ) (x : Extent) → nat_lt unit 1099511627776 ≡ true → in_unit old unit x ≡ in_page old.pages.page unit x
-page-unit old unit x is = ap (λ (b : Bool). cond b (in_page old.pages.page unit x) (x.0 == unit)) is
+page-unit : (old : Old) (unit : ℕ) (x : Extent) → nat_lt unit 1099511627776 ≡ true → in_unit old unit x ≡ in_page (page_size old) unit x
+page-unit old unit x is = ap (λ (b : Bool). cond b (in_page (page_size old) unit x) (x.0 == unit)) is
 
 page-dies : (old : Old) (m : Memory) (unit : ℕ) (x : Extent) → nat_lt unit 1099511627776 ≡ true
-    → dies old m unit x ≡ page_sweep.dies (word_in m) old.pages.page unit x
+    → dies old m unit x ≡ page_sweep.dies (word_in m) (page_size old) unit x
 page-dies old m unit x is = ap (λ (b : Bool). b && is_dead (word_in m x.0)) (page-unit old unit x is)
 
 above-page : (size unit : ℕ) (x : Extent) → unit + size ≤ 1099511627776 → 1099511627776 ≤ x.0 → in_page size unit x ≡ false
 above-page size unit x end above = grind (arith, nat_tests)
 
-large-lives : (old : Old) (m : Memory) (unit : ℕ) (x : Extent) → nat_lt unit 1099511627776 ≡ true → unit + old.pages.page ≤ 1099511627776
+large-lives : (old : Old) (m : Memory) (unit : ℕ) (x : Extent) → nat_lt unit 1099511627776 ≡ true → unit + page_size old ≤ 1099511627776
     → 1099511627776 ≤ x.0 → dies old m unit x ≡ false
 large-lives old m unit x is end above =
-    page-dies old m unit x is ∙ ap (λ (b : Bool). b && is_dead (word_in m x.0)) (above-page old.pages.page unit x end above)
+    page-dies old m unit x is ∙ ap (λ (b : Bool). b && is_dead (word_in m x.0)) (above-page (page_size old) unit x end above)
 
-large-word : (old : Old) (m : Memory) (unit : ℕ) (x : Extent) (a : ℕ) → nat_lt unit 1099511627776 ≡ true → unit + old.pages.page ≤ 1099511627776
+large-word : (old : Old) (m : Memory) (unit : ℕ) (x : Extent) (a : ℕ) → nat_lt unit 1099511627776 ≡ true → unit + page_size old ≤ 1099511627776
     → 1099511627776 ≤ x.0 → swept_word old m unit x a ≡ word_in m a
 large-word old m unit x a is end above =
     ap (λ (b : Bool). cond (b && (a == x.0)) (without_flag (word_in m a) Visited) (word_in m a))
-    (page-unit old unit x is ∙ above-page old.pages.page unit x end above)
+    (page-unit old unit x is ∙ above-page (page_size old) unit x end above)
 
 each-of : (P : Extent → Type 0) → ((x : Extent) → P x) → (xs : List Extent) → Each P xs
 each-of P f [] = tt
 each-of P f (x ∷ xs) = (f x, each-of P f xs)
 
 page-word : (old : Old) (m : Memory) (unit : ℕ) (x : Extent) (a : ℕ) → nat_lt unit 1099511627776 ≡ true
-    → swept_word old m unit x a ≡ page_sweep.swept_word (word_in m) old.pages.page unit x a
+    → swept_word old m unit x a ≡ page_sweep.swept_word (word_in m) (page_size old) unit x a
 page-word old m unit x a is =
     ap (λ (b : Bool). cond (b && (a == x.0)) (without_flag (word_in m a) Visited) (word_in m a)) (page-unit old unit x is)
 
@@ -128,7 +130,7 @@ pub headed-parts : (m : Memory) (small large live : List Extent) → Same (small
 headed-parts m small large live s headed = Each-same (IsHeaded m) live (small ++ large) (record { as_often = λ x. sym (s.as_often x) }) headed
 
 wide-small : (p : Pages) (m : Memory) (small : List Extent) (waiting : List ℕ) → pages.HasBlocks p m small waiting → Each (λ x. 2 ≤ x.1) small
-wide-small p m small waiting h = Each-map (IsBlock m p.small) (λ x. 2 ≤ x.1) (λ x b. b.wide) small (pages-each p m small waiting h)
+wide-small p m small waiting h = Each-map (IsBlock m (greatest_block p)) (λ x. 2 ≤ x.1) (λ x b. b.wide) small (pages-each p m small waiting h)
 
 -- of the blocks that stay, where word 0 may lose the flag Visited
 heads-swept : (t u : Extent → Bool) (m after : Memory) (small : List Extent) → Each (IsHeaded m) small → Each (λ x. 2 ≤ x.1) small
@@ -162,14 +164,14 @@ page-first p m small unit rest h =
     let low : unit < 1099511627776 = (waiting-below p m small (unit ∷ rest) h).0 in grind (arith, nat_tests)
 
 pub swept-page : (old : Old) (p : Pages) (m after : Memory) (before now births : List ℕ) (live small large : List Extent) (unit : ℕ) (pages_left blocks_left : List ℕ)
-    → page_sweep.SweepsPage p m after old.pages.page small unit pages_left before now → now ≡ before ++ births → IsInArenas m after
-    → p.small ≡ old.pages.small → pages.HasBlocks old.pages m small (unit ∷ pages_left) → larges.HasBlocks old.large m large blocks_left
-    → IsPermutation (small ++ large) live → old.pages.small ≡ old.small → Each (IsHeaded m) live
+    → page_sweep.SweepsPage p m after (page_size old) small unit pages_left before now → now ≡ before ++ births → IsInArenas m after
+    → greatest_block p ≡ greatest_block old.pages → pages.HasBlocks old.pages m small (unit ∷ pages_left) → larges.HasBlocks old.large m large blocks_left
+    → IsPermutation (small ++ large) live → greatest_block old.pages ≡ old.small → Each (IsHeaded m) live
     → SweepsUnit old m (record { pages = p; large = old.large; small = old.small }) after births live unit (pages_left ++ blocks_left)
 swept-page old p m after before now births live small large unit pages_left blocks_left sw appended arenas size in_pages in_larges perm greatest headed =
     let new : Old = record { pages = p; large = old.large; small = old.small } in
     let w = word_in m in
-    let n = old.pages.page in
+    let n = page_size old in
     let end : unit + n ≤ 1099511627776 = (waiting-ends old.pages m small (unit ∷ pages_left) in_pages).0 in
     let is = page-first old.pages m small unit pages_left in_pages in
     let whole = same-permutation (small ++ large) live perm in

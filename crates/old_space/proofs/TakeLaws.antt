@@ -13,19 +13,20 @@ use Rattle.old_space.specs.Calls.{ComesFrom}
 use Rattle.old_space.specs.declared.Old.{Old}
 use Rattle.old_space.proofs.CallLaws.{taken-small, taken-large, same-small, same-large, stands-after}
 use Rattle.old_space.proofs.JoinLaws.{larges-above}
+use Rattle.size_pages.specs.HasBlocks.{greatest_block}
 
 -- a page gives it
 
 pub small-ok : (old : Old) (p : Pages) (m now : Memory) (n : ℕ) (r : Result ℕ AllocError) (live : List Extent) (waiting : List ℕ)
     → ((small : List Extent) (w : List ℕ) → pages.HasBlocks old.pages m small w → IfOk r (λ a. pages.HasBlocks p now ((a, n) ∷ small) w))
-    → KeepsOutside 4294967296 1099511627776 m now → p.small ≡ old.pages.small → HasBlocks old m live waiting
+    → KeepsOutside 4294967296 1099511627776 m now → greatest_block p ≡ greatest_block old.pages → HasBlocks old m live waiting
     → IfOk r (λ a. HasBlocks (record { pages = p; large = old.large; small = old.small }) now ((a, n) ∷ live) waiting)
 small-ok old p m now n (Ok a) live waiting taken outside size h = taken-small old p m now (a, n) live waiting taken outside size h
 small-ok old p m now n (Err e) live waiting taken outside size h = tt
 
 pub small-err : (old : Old) (p : Pages) (m now : Memory) (r : Result ℕ AllocError) (live : List Extent) (waiting : List ℕ)
     → ((small : List Extent) (w : List ℕ) → pages.HasBlocks old.pages m small w → OnErr r (pages.HasBlocks p now small w))
-    → KeepsOutside 4294967296 1099511627776 m now → p.small ≡ old.pages.small → HasBlocks old m live waiting
+    → KeepsOutside 4294967296 1099511627776 m now → greatest_block p ≡ greatest_block old.pages → HasBlocks old m live waiting
     → OnErr r (HasBlocks (record { pages = p; large = old.large; small = old.small }) now live waiting)
 small-err old p m now (Ok a) live waiting kept outside size h = tt
 small-err old p m now (Err e) live waiting kept outside size h = same-small old p m now live waiting kept outside size h
@@ -33,7 +34,7 @@ small-err old p m now (Err e) live waiting kept outside size h = same-small old 
 pub small-stands : (old : Old) (p : Pages) (m now : Memory) (n : ℕ) (r : Result ℕ AllocError) → Stands old m
     → ((small : List Extent) (w : List ℕ) → pages.HasBlocks old.pages m small w → IfOk r (λ a. pages.HasBlocks p now ((a, n) ∷ small) w))
     → ((small : List Extent) (w : List ℕ) → pages.HasBlocks old.pages m small w → OnErr r (pages.HasBlocks p now small w))
-    → KeepsOutside 4294967296 1099511627776 m now → p.small ≡ old.pages.small
+    → KeepsOutside 4294967296 1099511627776 m now → greatest_block p ≡ greatest_block old.pages
     → Stands (record { pages = p; large = old.large; small = old.small }) now
 small-stands old p m now n r s taken kept outside size =
     stands-after old (record { pages = p; large = old.large; small = old.small }) m now n r s

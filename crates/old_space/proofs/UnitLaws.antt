@@ -23,6 +23,8 @@ use Rattle.old_space.specs.Calls.{unit_of, units_of}
 use Rattle.old_space.specs.declared.Old.{Old}
 use Rattle.old_space.proofs.PartLaws.{pages-each}
 use Rattle.old_space.proofs.WaitLaws.{contains-first, contains-later, unit-page, unit-large}
+use Rattle.size_pages.specs.HasBlocks.{greatest_block, page_count}
+use Rattle.old_space.specs.HasBlocks.{page_size}
 
 all-places : (P : ℕ → Type 0) (xs : List ℕ) → EachPlace P xs → All P xs
 all-places P [] h = All-nil P
@@ -36,11 +38,11 @@ its-page size p k x wide at here =
     ap (page_at size) (page_number size k x.0 wide (omega (arith, low, at)) (omega (arith, high, at))) ∙ sym at
 
 -- a page with a live block is the unit of one
-some-unit : (old : Old) (p k : ℕ) (xs : List Extent) → 64 ≤ old.pages.page → p ≡ page_at old.pages.page k → Each (λ x. x.0 < 1099511627776) xs → HasLive old.pages.page xs p → Contains (units_of old xs) p
+some-unit : (old : Old) (p k : ℕ) (xs : List Extent) → 64 ≤ page_size old → p ≡ page_at (page_size old) k → Each (λ x. x.0 < 1099511627776) xs → HasLive (page_size old) xs p → Contains (units_of old xs) p
 some-unit old p k [] wide at below some = absurd (some refl)
-some-unit old p k (x ∷ xs) wide at below some = elim (cases_Bool (in_page old.pages.page p x)) [
-  | inl here ↦ subst (λ (u : ℕ). Contains (u ∷ units_of old xs) p) (sym (unit-page old x.0 below.0 ∙ its-page old.pages.page p k x wide at here)) (contains-first p (units_of old xs))
-  | inr away ↦ contains-later (unit_of old x.0) p (units_of old xs) (some-unit old p k xs wide at below.1 (λ none. some (filter_skips (in_page old.pages.page p) x xs away ∙ none)))
+some-unit old p k (x ∷ xs) wide at below some = elim (cases_Bool (in_page (page_size old) p x)) [
+  | inl here ↦ subst (λ (u : ℕ). Contains (u ∷ units_of old xs) p) (sym (unit-page old x.0 below.0 ∙ its-page (page_size old) p k x wide at here)) (contains-first p (units_of old xs))
+  | inr away ↦ contains-later (unit_of old x.0) p (units_of old xs) (some-unit old p k xs wide at below.1 (λ none. some (filter_skips (in_page (page_size old) p) x xs away ∙ none)))
 ]
 
 -- a large block is a unit by itself
@@ -56,11 +58,11 @@ units-moved old small large live u same c =
 pub only-live : (old : Old) (m : Memory) (small large live : List Extent) → (b : page_calls.BeginsSweep old.pages m small) → IsPermutation (larges_of m) large → Each (λ x. 1099511627776 ≤ x.0) large → IsPermutation (small ++ large) live
     → All (Contains (units_of old live)) (b.waiting ++ places_of (larges_of m))
 only-live old m small large live b larges above same =
-    let size = old.pages.page in
+    let size = page_size old in
     let blocks = places_of (larges_of m) in
-    let pages : EachPlace (IsPage size old.pages.count) b.waiting = subst (EachPlace (IsPage size old.pages.count)) b.fits.lists.waits (b.fits.lists.pages 1) in
-    let below : Each (λ x. x.0 < 1099511627776) small = Each-map (IsBlock m old.pages.small) (λ x. x.0 < 1099511627776) (λ x is. omega (arith, is.high, is.wide)) small (pages-each old.pages m small b.waiting b.fits) in
-    let in_pages : EachPlace (Contains (units_of old small)) b.waiting = places_both (IsPage size old.pages.count) (HasLive size small) (Contains (units_of old small)) (λ p is some. some-unit old p is.number small b.fits.blocks.size_low is.is below some) b.waiting pages b.only in
+    let pages : EachPlace (IsPage size (page_count old.pages)) b.waiting = subst (EachPlace (IsPage size (page_count old.pages))) b.fits.lists.waits (b.fits.lists.pages 1) in
+    let below : Each (λ x. x.0 < 1099511627776) small = Each-map (IsBlock m (greatest_block old.pages)) (λ x. x.0 < 1099511627776) (λ x is. omega (arith, is.high, is.wide)) small (pages-each old.pages m small b.waiting b.fits) in
+    let in_pages : EachPlace (Contains (units_of old small)) b.waiting = places_both (IsPage size (page_count old.pages)) (HasLive size small) (Contains (units_of old small)) (λ p is some. some-unit old p is.number small b.fits.blocks.size_low is.is below some) b.waiting pages b.only in
     All-append (Contains (units_of old live)) b.waiting blocks
     (All-weaker (Contains (units_of old small)) (Contains (units_of old live)) (λ u c. units-moved old small large live u same (Contains-append_left (units_of old small) (units_of old large) u c)) b.waiting (all-places (Contains (units_of old small)) b.waiting in_pages))
     (All-weaker (Contains blocks) (Contains (units_of old live)) (λ u c.

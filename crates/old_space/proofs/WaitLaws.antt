@@ -21,10 +21,11 @@ use Rattle.old_space.specs.declared.Old.{Old}
 use Rattle.old_space.proofs.PartLaws.{waiting-below}
 use Rattle.old_space.proofs.JoinLaws.{HasBlocks-first}
 use Rattle.old_space.proofs.GiveLaws.{live-small, live-large}
+use Rattle.old_space.specs.HasBlocks.{page_size}
 
 -- the unit of a block
 
-pub unit-page : (old : Old) (a : ℕ) → a < 1099511627776 → unit_of old a ≡ page_of old.pages.page a
+pub unit-page : (old : Old) (a : ℕ) → a < 1099511627776 → unit_of old a ≡ page_of (page_size old) a
 unit-page old a low = let is : nat_lt a 1099511627776 ≡ true = grind (arith, nat_tests) in rw is refl
 
 pub unit-large : (old : Old) (a : ℕ) → 1099511627776 ≤ a → unit_of old a ≡ a
@@ -86,13 +87,13 @@ page-low size a some low =
 -- a page's block
 
 pub page-waits : (old : Old) (m : Memory) (a : ℕ) (b : Bool) (live : List Extent) (waiting : List ℕ) → a < 1099511627776 → 4294967296 ≤ a
-    → (h : HasBlocks old m live waiting) → (IsTrue b → IsIn (page_of old.pages.page a) h.waiting_pages) × (IsIn (page_of old.pages.page a) h.waiting_pages → IsTrue b)
+    → (h : HasBlocks old m live waiting) → (IsTrue b → IsIn (page_of (page_size old) a) h.waiting_pages) × (IsIn (page_of (page_size old) a) h.waiting_pages → IsTrue b)
     → (IsTrue b → Contains waiting (unit_of old a)) × (Contains waiting (unit_of old a) → IsTrue b)
 page-waits old m a b live waiting high low h both =
-    let u = page_of old.pages.page a in
+    let u = page_of (page_size old) a in
     let is : nat_lt a 1099511627776 ≡ true = grind (arith, nat_tests) in
     let wide = h.in_pages.blocks.size_low in
-    let below : u ≤ a = page-low old.pages.page a (omega arith) low in
+    let below : u ≤ a = page-low (page_size old) a (omega arith) low in
     rw is (
       (λ yes. subst (λ (ws : List ℕ). Contains ws u) (sym h.waits)
           (Contains-append_left h.waiting_pages h.waiting_blocks u (contains-in u h.waiting_pages (both.0 yes)))),

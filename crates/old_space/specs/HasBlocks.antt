@@ -20,7 +20,7 @@ pub record HasBlocks (old : Old) (m : Memory) (live : List Extent) (waiting : Li
   pub in_larges : larges.HasBlocks old.large m large waiting_blocks
   pub same : IsPermutation (small ++ large) live
   pub waits : waiting ≡ waiting_pages ++ waiting_blocks
-  pub greatest : old.pages.small ≡ old.small
+  pub greatest : pages.greatest_block old.pages ≡ old.small
 
 -- the space is as the earlier calls left it
 pub record Stands (old : Old) (m : Memory) : Type 0 where

@@ -11,6 +11,7 @@ use Rattle.size_pages.specs.Sweeping.{is_dead, birth_in}
 use Rattle.old_space.specs.HasBlocks.{KeepsSizes, page_size}
 use Rattle.old_space.specs.Headers.{HasHeaders}
 use Rattle.old_space.specs.declared.Old.{Old}
+use Rattle.size_pages.specs.HasBlocks.{waiting_page_count}
 
 -- whether the block is of the unit: it lies in the page, or is the large block
 abbrev pub in_unit : Old → ℕ → Extent → Bool
@@ -46,4 +47,4 @@ pub record SweepsLowest (old : Old) (m : Memory) (new : Old) (after : Memory) (b
 
 -- how many units wait
 abbrev pub units_left : Old → ℕ
-units_left old = old.pages.waiting + old.large.waiting
+units_left old = waiting_page_count old.pages + old.large.waiting

@@ -3,7 +3,8 @@ use Rattle.std.proofs.Common.{sym, subst, refl, ◌≡◌, ◌≢◌, ℕ, ◌+�
 use Rattle.std.proofs.lemmas.Nat.{div-mul-add}
 use Rattle.heap_space.specs.Memory.{Memory}
 use Rattle.heap_space.specs.Extents.{Extent, KeepsWords}
-use Rattle.size_pages.specs.PageWords.{Words, word_in, IsInArenas, GivesBack, Clears}
+use Rattle.size_pages.specs.PageWords.{Words, word_in, IsInArenas}
+use Rattle.size_pages.specs.PageBlocks.{GivesBack, Clears}
 use Rattle.size_pages.specs.LiveBlocks.{page_at}
 use Rattle.size_pages.specs.PageLists.{IsPage, Unlinks, Links, SameSigns}
 use Rattle.size_pages.specs.HasBlocks.{HasBlocksBut, HasBlocks, IsLive, KeepsSizes}

@@ -4,7 +4,8 @@ use Rattle.std.proofs.lemmas.Bool.{cases_lt}
 use Rattle.heap_space.specs.Memory.{Memory, with_arena}
 use Rattle.heap_space.specs.Order.{IsInOrder}
 use Rattle.heap_space.specs.Extents.{Extent}
-use Rattle.size_pages.specs.PageWords.{word_in, HasAll, IsInArenas, Starts}
+use Rattle.size_pages.specs.PageWords.{word_in, HasAll, IsInArenas}
+use Rattle.size_pages.specs.PageBlocks.{Starts}
 use Rattle.size_pages.specs.LiveBlocks.{page_at}
 use Rattle.size_pages.specs.HasBlocks.{HasBlocks, Stands, KeepsSizes}
 use Rattle.size_pages.specs.Growth.{AllUsed, FindsUnused, IsOnlyOrder, AddsPages, KeepsBlocks, MakesUnused, CanBegin, BeginsPage}

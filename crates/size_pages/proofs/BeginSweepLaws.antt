@@ -6,7 +6,8 @@ use Rattle.std.specs.List.{filter}
 use Rattle.heap_space.specs.Memory.{Memory}
 use Rattle.heap_space.specs.Extents.{Extent, Each, KeepsWords}
 use Rattle.heap_space.proofs.ExtentLaws.{Each-map, Each-both}
-use Rattle.size_pages.specs.PageWords.{Words, word_in, IsInArenas, PageHolds, Chain}
+use Rattle.size_pages.specs.PageWords.{Words, word_in, IsInArenas}
+use Rattle.size_pages.specs.PageBlocks.{PageHolds, Chain}
 use Rattle.size_pages.specs.LiveBlocks.{page_at, blocks_of, in_page, PageIs, IsInPages}
 use Rattle.size_pages.specs.PageLists.{EachPlace, IsIn, IsPage, IsListedRightly}
 use Rattle.size_pages.specs.HasBlocks.{HasBlocks, IsRising, KeepsSizes}

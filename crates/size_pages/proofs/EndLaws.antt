@@ -4,7 +4,8 @@ use Rattle.std.proofs.lemmas.Bool.Decides.{nat_tests}
 use Rattle.heap_space.specs.Memory.{Memory}
 use Rattle.heap_space.specs.Extents.{Extent}
 use Rattle.heap_space.proofs.ExtentLaws.{Each-right}
-use Rattle.size_pages.specs.PageWords.{word_in, CanStore, IsInArenas, IsBlockOf, GivesBack, Clears}
+use Rattle.size_pages.specs.PageWords.{word_in, CanStore, IsInArenas}
+use Rattle.size_pages.specs.PageBlocks.{IsBlockOf, GivesBack, Clears}
 use Rattle.size_pages.specs.LiveBlocks.{page_at, blocks_of}
 use Rattle.size_pages.specs.PageLists.{IsPage, list_number, IsRight, IsListedRightly, ListsFit, SameSigns}
 use Rattle.size_pages.specs.HasBlocks.{HasBlocksBut, HasBlocks, IsLive}

@@ -3,7 +3,8 @@ use Rattle.std.proofs.Common.{◌≡◌, ◌≢◌, ℕ, ◌+◌, ◌<◌, ◌�
 use Rattle.std.proofs.lemmas.Bool.Decides.{eqb_tells, nat_tests}
 use Rattle.std.specs.List.{filter}
 use Rattle.heap_space.specs.Extents.{Extent, Each, IsApart, AreApart}
-use Rattle.size_pages.specs.PageWords.{Words, IsBlockOf, PageHolds}
+use Rattle.size_pages.specs.PageWords.{Words}
+use Rattle.size_pages.specs.PageBlocks.{IsBlockOf, PageHolds}
 use Rattle.size_pages.specs.LiveBlocks.{page_at, in_page, blocks_of, PageIs, IsInPages, BlocksFit}
 use Rattle.heap_space.proofs.ExtentLaws.{Each-map, Each-right, AreApart-right}
 use Rattle.size_pages.proofs.PageLaws.{holds_frame, StaysOutside, StaysInPage}

@@ -17,7 +17,7 @@ use Rattle.size_pages.proofs.FitLaws.{pages_apart, pages_part, fits_frame}
 use Rattle.size_pages.proofs.ListMoves.{SameLinks, signs_from, lists_frame, rightly_same}
 use Rattle.size_pages.proofs.FitsLaws.{below_of, classes_same}
 use Rattle.size_pages.proofs.GiveLaws.{used_page}
-use Rattle.size_pages.specs.PageWords.{PageHolds, IsBlockOf}
+use Rattle.size_pages.specs.PageBlocks.{PageHolds, IsBlockOf}
 use Rattle.size_pages.specs.LiveBlocks.{blocks_of}
 use Rattle.heap_space.proofs.ExtentLaws.{Each-right}
 

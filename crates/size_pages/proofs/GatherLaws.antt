@@ -10,7 +10,8 @@ use Rattle.heap_space.specs.Extents.{Extent, Each}
 use Rattle.heap_space.proofs.ExtentLaws.{Each-map}
 use Rattle.object_header.specs.Words.{has_flag}
 use Rattle.object_header.specs.declared.flags.Flag.TheVariants.{Free}
-use Rattle.size_pages.specs.PageWords.{Words, word_in, CanStore, HasAll, IsBlockOf}
+use Rattle.size_pages.specs.PageWords.{Words, word_in, CanStore, HasAll}
+use Rattle.size_pages.specs.PageBlocks.{IsBlockOf}
 use Rattle.size_pages.specs.LiveBlocks.{page_at, blocks_of, in_page}
 use Rattle.size_pages.specs.Headers.{HasHeaders}
 use Rattle.size_pages.specs.Listing.{CanListBlocks}

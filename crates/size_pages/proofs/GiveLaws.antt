@@ -4,7 +4,8 @@ use Rattle.std.proofs.lemmas.Bool.Decides.{eqb_tells}
 use Rattle.std.proofs.lemmas.Nat.{div-mul-add}
 use Rattle.heap_space.specs.Memory.{Memory}
 use Rattle.heap_space.specs.Extents.{Extent}
-use Rattle.size_pages.specs.PageWords.{Words, word_in, IsInArenas, PageHolds, GivesBack, Clears}
+use Rattle.size_pages.specs.PageWords.{Words, word_in, IsInArenas}
+use Rattle.size_pages.specs.PageBlocks.{PageHolds, GivesBack, Clears}
 use Rattle.size_pages.specs.LiveBlocks.{page_at, blocks_of, BlocksFit, ClassesFit, PageIs}
 use Rattle.size_pages.specs.PageLists.{IsPage, IsRight, IsListedRightly, ListsFit, SameSigns}
 use Rattle.size_pages.specs.HasBlocks.{HasSetup, HasBlocks, HasBlocksBut}

@@ -4,7 +4,8 @@ use Rattle.std.proofs.lemmas.Bool.Decides.{eqb_tells}
 use Rattle.heap_space.specs.Memory.{Memory}
 use Rattle.heap_space.specs.Extents.{Extent, Each, IsApart, IsInside, KeepsWords}
 use Rattle.heap_space.proofs.ExtentLaws.{Each-map, Each-both}
-use Rattle.size_pages.specs.PageWords.{word_in, IsInArenas, GivesBack, Starts, Clears}
+use Rattle.size_pages.specs.PageWords.{word_in, IsInArenas}
+use Rattle.size_pages.specs.PageBlocks.{GivesBack, Starts, Clears}
 use Rattle.size_pages.specs.LiveBlocks.{page_at, IsInPages}
 use Rattle.size_pages.specs.PageLists.{first_of_list, IsPage, Unlinks, Links}
 use Rattle.size_pages.specs.HasBlocks.{HasBlocksBut, HasBlocks}

@@ -10,6 +10,7 @@ pub mod GiveLaws
 pub mod EndLaws
 pub mod TakeLaws
 pub mod KeepLaws
+mod KindLaws
 pub mod StartLaws
 pub mod WalkLaws
 pub mod GrowthLaws

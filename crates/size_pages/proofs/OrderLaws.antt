@@ -5,7 +5,8 @@ use Rattle.std.specs.List.{filter}
 use Rattle.heap_space.specs.Memory.{Memory}
 use Rattle.heap_space.specs.Extents.{Extent, Each, IsApart, AreApart}
 use Rattle.heap_space.proofs.ExtentLaws.{Each-out, AreApart-out}
-use Rattle.size_pages.specs.PageWords.{Words, word_in, IsBlockOf, BeginsAt, PageHolds}
+use Rattle.size_pages.specs.PageWords.{Words, word_in}
+use Rattle.size_pages.specs.PageBlocks.{IsBlockOf, BeginsAt, PageHolds}
 use Rattle.size_pages.specs.LiveBlocks.{page_at, in_page, PageIs, IsInPages}
 use Rattle.size_pages.specs.HasBlocks.{HasBlocks}
 use Rattle.size_pages.specs.declared.Pages.{Pages}

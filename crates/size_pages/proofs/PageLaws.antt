@@ -3,7 +3,8 @@ use Rattle.std.proofs.Common.{◌≡◌, ℕ, suc, ◌+◌, ◌*◌, ◌<◌, �
 use Rattle.std.proofs.Math.Nat.{mul-le-mul_right}
 use Rattle.std.proofs.lemmas.Bool.{cases_lt}
 use Rattle.heap_space.specs.Extents.{Extent, Each, IsApart, AreApart, IsOutside}
-use Rattle.size_pages.specs.PageWords.{Words, Chain, IsBlockOf, BeginsAt, PageHolds, TakesChained, TakesFresh, GivesBack}
+use Rattle.size_pages.specs.PageWords.{Words}
+use Rattle.size_pages.specs.PageBlocks.{Chain, IsBlockOf, BeginsAt, PageHolds, TakesChained, TakesFresh, GivesBack}
 use Rattle.heap_space.proofs.ExtentLaws.{Each-into, Each-out, Each-map, Each-both, Each-left, Each-right, AreApart-into, AreApart-out, AreApart-between}
 
 -- the two words of each that a chain reads are the same

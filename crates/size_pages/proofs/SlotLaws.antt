@@ -7,7 +7,8 @@ use Rattle.std.specs.List.{filter}
 use Rattle.heap_space.specs.Memory.{Memory}
 use Rattle.heap_space.specs.Extents.{Extent, Each, IsApart}
 use Rattle.heap_space.proofs.ExtentLaws.{Each-map, Each-both, Each-left, Each-right, AreApart-between}
-use Rattle.size_pages.specs.PageWords.{Words, word_in, Chain, IsBlockOf, BeginsAt, PageHolds}
+use Rattle.size_pages.specs.PageWords.{Words, word_in}
+use Rattle.size_pages.specs.PageBlocks.{Chain, IsBlockOf, BeginsAt, PageHolds}
 use Rattle.size_pages.specs.LiveBlocks.{page_at, blocks_of, in_page, PageIs, IsInPages}
 use Rattle.size_pages.specs.HasBlocks.{HasBlocks}
 use Rattle.size_pages.specs.declared.Pages.{Pages}

@@ -5,7 +5,7 @@ use Rattle.std.proofs.lemmas.Bool.Decides.{nat_tests}
 use Rattle.std.specs.List.{filter}
 use Rattle.heap_space.specs.Extents.{Extent, Each, IsApart, AreApart}
 use Rattle.heap_space.proofs.ExtentLaws.{Each-map, Each-both, Each-left, Each-right, Each-join, AreApart-out}
-use Rattle.size_pages.specs.PageWords.{BeginsAt}
+use Rattle.size_pages.specs.PageBlocks.{BeginsAt}
 use Rattle.size_pages.proofs.FitLaws.{filter_takes, filter_skips}
 
 -- the block at b of n words, and the others, each of which begins below it or behind it

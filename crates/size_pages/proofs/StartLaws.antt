@@ -2,7 +2,8 @@
 use Rattle.std.proofs.Common.{◌≡◌, ℕ, ◌+◌, ◌<◌, ◌≤◌, ◌⊎◌, inl, inr, List, [], arith, refl, sym, ◌∙◌, ap, subst}
 use Rattle.heap_space.specs.Memory.{Memory}
 use Rattle.heap_space.specs.Extents.{Extent}
-use Rattle.size_pages.specs.PageWords.{Words, word_in, IsInArenas, PageHolds, Starts}
+use Rattle.size_pages.specs.PageWords.{Words, word_in, IsInArenas}
+use Rattle.size_pages.specs.PageBlocks.{PageHolds, Starts}
 use Rattle.size_pages.specs.LiveBlocks.{page_at, blocks_of, PageIs}
 use Rattle.size_pages.specs.PageLists.{IsPage, ListsFit}
 use Rattle.size_pages.specs.HasBlocks.{HasBlocksBut, HasBlocks}

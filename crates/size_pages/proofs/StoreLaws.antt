@@ -1,7 +1,8 @@
 -- What a few writes in a row make of the words.
 use Rattle.std.proofs.Common.{◌≡◌, ◌≢◌, ℕ, ◌+◌, ◌-◌, ◌<◌, ◌≤◌, arith, refl, ◌∙◌, ap}
 use Rattle.std.proofs.lemmas.Bool.Decides.{nat_tests}
-use Rattle.size_pages.specs.PageWords.{Words, IsStored, TakesChained, TakesFresh, GivesBack}
+use Rattle.size_pages.specs.PageWords.{Words, IsStored}
+use Rattle.size_pages.specs.PageBlocks.{TakesChained, TakesFresh, GivesBack}
 
 pub stored_here : (old new : Words) (a v b : ℕ) → IsStored old new a v → b ≡ a → new b ≡ v
 stored_here old new a v b h e = h b ∙ grind (arith, nat_tests)

@@ -8,7 +8,8 @@ use Rattle.heap_space.specs.Extents.{Extent, Each, IsInside, IsApart, KeepsWords
 use Rattle.heap_space.proofs.ExtentLaws.{Each-map, Each-both, Each-into, Each-out}
 use Rattle.object_header.specs.Words.{has_flag, without_flag}
 use Rattle.object_header.specs.declared.flags.Flag.TheVariants.{Free, Visited}
-use Rattle.size_pages.specs.PageWords.{Words, word_in, CanStore, IsInArenas, IsStored, GivesBack}
+use Rattle.size_pages.specs.PageWords.{Words, word_in, CanStore, IsInArenas, IsStored}
+use Rattle.size_pages.specs.PageBlocks.{GivesBack}
 use Rattle.size_pages.specs.LiveBlocks.{page_at, in_page}
 use Rattle.size_pages.specs.HasBlocks.{HasBlocks, IsLive}
 use Rattle.size_pages.specs.Steps.{CanPut}

@@ -3,7 +3,8 @@ use Rattle.std.proofs.Common.{◌≡◌, ◌≢◌, ℕ, ◌+◌, ◌-◌, ◌*�
 use Rattle.std.proofs.lemmas.Bool.Decides.{eqb_tells, nat_tests}
 use Rattle.heap_space.specs.Memory.{Memory}
 use Rattle.heap_space.specs.Extents.{Extent}
-use Rattle.size_pages.specs.PageWords.{Words, word_in, IsInArenas, IsBlockOf, PageHolds, TakesChained, TakesFresh}
+use Rattle.size_pages.specs.PageWords.{Words, word_in, IsInArenas}
+use Rattle.size_pages.specs.PageBlocks.{IsBlockOf, PageHolds, TakesChained, TakesFresh}
 use Rattle.size_pages.specs.LiveBlocks.{page_at, blocks_of, BlocksFit, PageIs}
 use Rattle.size_pages.specs.PageLists.{EachPlace, first_of_list, IsPage, list_number, list_of, IsListedRightly, SameSigns}
 use Rattle.size_pages.specs.HasBlocks.{HasBlocksBut, HasBlocks, Stands}

@@ -6,6 +6,7 @@ use Rattle.heap_space.specs.Memory.{Memory}
 use Rattle.heap_space.specs.Extents.{Extent}
 use Rattle.size_pages.specs.PageWords.{word_in, CanStore}
 use Rattle.size_pages.specs.LiveBlocks.{page_at}
+use Rattle.size_pages.specs.Kinds.{HasKind}
 use Rattle.size_pages.specs.PageLists.{EachPlace, IsIn, IsPage, IsListedRightly, list_number, list_of}
 use Rattle.size_pages.specs.HasBlocks.{HasBlocks}
 use Rattle.size_pages.specs.Calls.{page_of, BeginsLive}
@@ -33,15 +34,9 @@ waits_exactly pages m page live waiting f is =
 -- the page of a live block, and the word that says whether it waits
 pub record LivePage (pages : Pages) (m : Memory) (page : ℕ) : Type 0 where
   pub is_page : IsPage pages.page pages.count page
-  pub header : CanStore m (page + 6)
+  pub header : HasKind m page
 
 pub live_page : (pages : Pages) (m : Memory) (a page : ℕ) → BeginsLive pages m a → page ≡ page_of pages.page a → LivePage pages m page
 live_page pages m a page b is =
     let g = give_facts pages m page a b.words b.live is in
-    record { is_page = g.block.page; header = g.header 6 (omega arith) }
-
-pub nat_eq_true : (a b : ℕ) → IsTrue (nat_eq a b) → a ≡ b
-nat_eq_true a b t = grind (arith, nat_tests)
-
-pub nat_eq_same : (a b : ℕ) → a ≡ b → IsTrue (nat_eq a b)
-nat_eq_same a b e = grind (arith, nat_tests)
+    record { is_page = g.block.page; header = (g.header 6 (omega arith), g.right.known) }

@@ -19,9 +19,9 @@ pub record HasNext (m : Memory) (start now : List ℕ) (page : ℕ) (list : List
   pub few : length now < length start + length list
   pub walked : IsWalked m start (now ++ page ∷ []) (word_in m (page + 4)) list
 
-next_of : (m : Memory) (start now : List ℕ) (page : ℕ) (list left : List ℕ) → page ≢ 0 → now ++ left ≡ start ++ list → IsListFrom m page left → HasNext m start now page list
-next_of m start now page list [] n all h = absurd (n h.starts)
-next_of m start now page list (x ∷ xs) n all h =
+next_walked : (m : Memory) (start now : List ℕ) (page : ℕ) (list left : List ℕ) → page ≢ 0 → now ++ left ≡ start ++ list → IsListFrom m page left → HasNext m start now page list
+next_walked m start now page list [] n all h = absurd (n h.starts)
+next_walked m start now page list (x ∷ xs) n all h =
     let at : page ≡ x = h.starts in
     let same : now ++ page ∷ xs ≡ start ++ list = ap (λ (p : ℕ). now ++ p ∷ xs) at ∙ all in
     let long : length (now ++ page ∷ xs) ≡ length (start ++ list) = ap length same in
@@ -36,7 +36,7 @@ next_of m start now page list (x ∷ xs) n all h =
     }
 
 pub walk_next : (m : Memory) (start now : List ℕ) (page : ℕ) (list : List ℕ) → page ≢ 0 → IsWalked m start now page list → HasNext m start now page list
-walk_next m start now page list n w = next_of m start now page list w.left n w.all w.rest
+walk_next m start now page list n w = next_walked m start now page list w.left n w.all w.rest
 
 end_of : (m : Memory) (start now list left : List ℕ) → now ++ left ≡ start ++ list → IsListFrom m 0 left → now ≡ start ++ list
 end_of m start now list [] all h = sym (append-nil now) ∙ all

@@ -3,6 +3,7 @@ use Rattle.std.specs.Prelude.{◌≡◌, ◌≢◌, ℕ, ◌+◌, ◌<◌, ◌�
 use Rattle.heap_space.specs.Memory.{Memory}
 use Rattle.heap_space.specs.Extents.{Extent, KeepsWords, KeepsOutside}
 use Rattle.size_pages.specs.PageWords.{Words, word_in}
+use Rattle.size_pages.specs.PageHeader.{class_of, first_free, first_fresh, blocks_at}
 use Rattle.size_pages.specs.LiveBlocks.{page_at}
 use Rattle.size_pages.specs.HasBlocks.{HasBlocks, HasBlocksBut, Stands, KeepsSizes}
 use Rattle.size_pages.specs.Steps.{CanTakeUnlisted}
@@ -10,7 +11,7 @@ use Rattle.size_pages.specs.declared.Pages.{Pages}
 
 -- no page below count is unused
 abbrev pub AllUsed : Words → ℕ → ℕ → Type 0
-AllUsed w size count = (k : ℕ) → k < count → w (page_at size k) ≢ 0
+AllUsed w size count = (k : ℕ) → k < count → class_of w (page_at size k) ≢ 0
 
 -- a search for unused pages begins at the page or before
 pub record IsLowered (old new : Pages) (page : ℕ) : Type 0 where
@@ -23,7 +24,7 @@ pub record FindsUnused (old new : Pages) (m : Memory) : Type 0 where
   pub is : new ≡ record old { lowest = new.lowest }
   pub within : new.lowest ≤ old.count
   pub used : AllUsed (word_in m) old.page new.lowest
-  pub unused : new.lowest ≢ old.count → word_in m (page_at old.page new.lowest) ≡ 0
+  pub unused : new.lowest ≢ old.count → class_of (word_in m) (page_at old.page new.lowest) ≡ 0
 
 -- nothing changes but the places in `order`, and its room does not shrink
 pub record IsOnlyOrder (old new : Pages) : Type 0 where
@@ -41,7 +42,7 @@ pub record AddsPages (old new : Pages) (m after : Memory) : Type 0 where
   pub more : old.count < new.count
   pub added : (live : List Extent) (waiting : List ℕ) → HasBlocks old m live waiting → HasBlocks new after live waiting
   pub words : (e : ℕ) → word_in after e ≡ word_in m e
-  pub unused : word_in m (page_at old.page old.count) ≡ 0
+  pub unused : class_of (word_in m) (page_at old.page old.count) ≡ 0
   pub next : after.next_arena ≡ m.next_arena + m.arena_words
   pub size : after.arena_words ≡ m.arena_words
   pub large : after.next_large ≡ m.next_large
@@ -57,7 +58,7 @@ pub record MakesUnused (old new : Pages) (m after : Memory) : Type 0 where
   pub sizes : KeepsSizes old new
   pub below : new.lowest < new.count
   pub lower : AllUsed (word_in m) old.page new.lowest
-  pub unused : word_in m (page_at old.page new.lowest) ≡ 0
+  pub unused : class_of (word_in m) (page_at old.page new.lowest) ≡ 0
   pub fits : (live : List Extent) (waiting : List ℕ) → HasBlocks old m live waiting → HasBlocks new after live waiting
   pub words : (e : ℕ) → word_in after e ≡ word_in m e
   pub one : (after.next_arena ≡ m.next_arena) ⊎ (after.next_arena ≡ m.next_arena + m.arena_words)
@@ -68,14 +69,14 @@ pub record MakesUnused (old new : Pages) (m after : Memory) : Type 0 where
 
 -- no block of the page was handed out
 pub record IsEmptyPage (w : Words) (p : ℕ) : Type 0 where
-  pub chain : w (p + 1) ≡ 0
-  pub fresh : w (p + 3) ≡ p + 8
+  pub chain : first_free w p ≡ 0
+  pub fresh : first_fresh w p ≡ blocks_at p
 
 -- the page at which the search begins is unused, and may get the class n
 pub record CanBegin (pages : Pages) (m : Memory) (n : ℕ) : Type 0 where
   pub stands : Stands pages m
   pub below : pages.lowest < pages.count
-  pub unused : word_in m (page_at pages.page pages.lowest) ≡ 0
+  pub unused : class_of (word_in m) (page_at pages.page pages.lowest) ≡ 0
   pub low : 2 ≤ n
   pub small : n ≤ pages.small
 
@@ -83,10 +84,11 @@ pub record CanBegin (pages : Pages) (m : Memory) (n : ℕ) : Type 0 where
 pub record BeginsPage (old new : Pages) (m after : Memory) (page n : ℕ) : Type 0 where
   pub sizes : KeepsSizes old new
   pub can : CanTakeUnlisted new after page n
-  pub started : (live : List Extent) (waiting : List ℕ) → HasBlocks old m live waiting → HasBlocksBut new after live waiting page
+  pub started : (live : List Extent) (waiting : List ℕ) → HasBlocks old m live waiting
+      → HasBlocksBut new after live waiting page
   pub kept : (live : List Extent) (waiting : List ℕ) → HasBlocks old m live waiting → KeepsWords m after live
-  pub unused : word_in m page ≡ 0
-  pub lower : (k : ℕ) → page_at old.page k < page → word_in m (page_at old.page k) ≢ 0
+  pub unused : class_of (word_in m) page ≡ 0
+  pub lower : (k : ℕ) → page_at old.page k < page → class_of (word_in m) (page_at old.page k) ≢ 0
   pub empty : IsEmptyPage (word_in after) page
   pub one : (after.next_arena ≡ m.next_arena) ⊎ (after.next_arena ≡ m.next_arena + m.arena_words)
   pub exactly : (after.next_arena ≡ m.next_arena + m.arena_words) ↔ AllUsed (word_in m) old.page old.count

@@ -23,6 +23,10 @@ greatest_block pages = pages.small
 abbrev pub page_count : Pages → ℕ
 page_count pages = pages.count
 
+-- how many pages wait
+abbrev pub waiting_page_count : Pages → ℕ
+waiting_page_count pages = pages.waiting
+
 -- each place is below those behind it
 abbrev pub IsRising : List ℕ → Type 0
 IsRising [] = Unit {0}

@@ -1,4 +1,7 @@
 pub mod PageWords
+pub mod PageHeader
+pub mod Kinds
+pub mod PageBlocks
 pub mod LiveBlocks
 pub mod PageLists
 pub mod HasBlocks

@@ -24,5 +24,6 @@ pub record IsListed (live appended : List Extent) (end : ℕ) : Type 0 where
 
 -- from those below the page to those below its end
 pub record ListsBlocks (pages : Pages) (m : Memory) (page : ℕ) (old new : List Extent) : Type 0 where
-  pub listed : (live : List Extent) (waiting : List ℕ) (before appended : List Extent) → HasHeaders pages m live waiting → old ≡ before ++ appended → IsListed live appended page
+  pub listed : (live : List Extent) (waiting : List ℕ) (before appended : List Extent)
+      → HasHeaders pages m live waiting → old ≡ before ++ appended → IsListed live appended page
       → (more : List Extent) × (new ≡ before ++ more) × IsListed live more (page + pages.page)

@@ -12,9 +12,11 @@ use Rattle.size_pages.specs.declared.Pages.{Pages}
 pub record FindsPage (old new : Pages) (m after : Memory) (page n : ℕ) : Type 0 where
   pub sizes : KeepsSizes old new
   pub can : CanTakeUnlisted new after page n
-  pub found : (live : List Extent) (waiting : List ℕ) → HasBlocks old m live waiting → HasBlocksBut new after live waiting page
+  pub found : (live : List Extent) (waiting : List ℕ) → HasBlocks old m live waiting
+      → HasBlocksBut new after live waiting page
   pub kept : (live : List Extent) (waiting : List ℕ) → HasBlocks old m live waiting → KeepsWords m after live
-  pub apart : (live : List Extent) (waiting : List ℕ) → HasBlocks old m live waiting → (a : ℕ) → page ≤ a → a < page + old.page → IsInNone old.page waiting a
+  pub apart : (live : List Extent) (waiting : List ℕ) → HasBlocks old m live waiting → (a : ℕ) → page ≤ a
+      → a < page + old.page → IsInNone old.page waiting a
   pub from : TakesFrom (word_in m) old.page old.count n page
   pub next : (a : ℕ) → TakesNext (word_in after) page a → TakesFirst (word_in m) page a
   pub arena : AddsArena (word_in m) old.page old.count n m after
@@ -24,7 +26,8 @@ pub record FindsPage (old new : Pages) (m after : Memory) (page n : ℕ) : Type 
 
 -- the block, of n words, is taken from the page, which stays on its list
 pub record TakesListed (pages : Pages) (m after : Memory) (n a : ℕ) : Type 0 where
-  pub taken : (live : List Extent) (waiting : List ℕ) → HasBlocks pages m live waiting → HasBlocks pages after ((a, n) ∷ live) waiting
+  pub taken : (live : List Extent) (waiting : List ℕ) → HasBlocks pages m live waiting
+      → HasBlocks pages after ((a, n) ∷ live) waiting
   pub kept : (live : List Extent) (waiting : List ℕ) → HasBlocks pages m live waiting → KeepsWords m after live
   pub apart : (live : List Extent) (waiting : List ℕ) → HasBlocks pages m live waiting → IsInNone pages.page waiting a
   pub cleared : word_in after a ≡ 0
@@ -35,7 +38,8 @@ pub record TakesListed (pages : Pages) (m after : Memory) (n a : ℕ) : Type 0 w
 
 -- the block of the page is not live any more
 pub record GivesBlock (old new : Pages) (m after : Memory) (page a n : ℕ) : Type 0 where
-  pub given : (live : List Extent) (waiting : List ℕ) → HasBlocks old m ((a, n) ∷ live) waiting → HasBlocks new after live waiting
+  pub given : (live : List Extent) (waiting : List ℕ) → HasBlocks old m ((a, n) ∷ live) waiting
+      → HasBlocks new after live waiting
   pub kept : (live : List Extent) (waiting : List ℕ) → HasBlocks old m ((a, n) ∷ live) waiting → KeepsWords m after live
   pub around : ChangesAround (word_in m) (word_in after) old.page old.count page a
   pub arenas : IsInArenas m after

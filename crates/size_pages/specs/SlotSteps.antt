@@ -5,7 +5,8 @@ use Rattle.heap_space.specs.Memory.{Memory}
 use Rattle.heap_space.specs.Extents.{Extent, Each, IsInside, KeepsWords}
 use Rattle.object_header.specs.Words.{has_flag, without_flag}
 use Rattle.object_header.specs.declared.flags.Flag.TheVariants.{Free, Visited}
-use Rattle.size_pages.specs.PageWords.{Words, word_in, CanStore, IsInArenas, IsStored, GivesBack}
+use Rattle.size_pages.specs.PageWords.{Words, word_in, CanStore, IsInArenas, IsStored}
+use Rattle.size_pages.specs.PageBlocks.{GivesBack}
 use Rattle.size_pages.specs.HasBlocks.{HasBlocks, KeepsSizes}
 use Rattle.size_pages.specs.Steps.{CanPut}
 use Rattle.size_pages.specs.Headers.{HasHeaders}
@@ -37,11 +38,13 @@ pub record CanSweepSlot (m : Memory) (page block : ℕ) : Type 0 where
 pub record SweepsSlot (old new : Words) (page block : ℕ) : Type 0 where
   pub free : has_flag (old block) Free ≡ true → (e : ℕ) → new e ≡ old e
   pub dead : has_flag (old block) Free ≡ false → is_dead (old block) ≡ true → GivesBack old new page block
-  pub kept : has_flag (old block) Free ≡ false → is_dead (old block) ≡ false → IsStored old new block (without_flag (old block) Visited)
+  pub kept : has_flag (old block) Free ≡ false → is_dead (old block) ≡ false
+      → IsStored old new block (without_flag (old block) Visited)
 
 -- all slots of the page are swept
 pub record SweepsBlocks (pages : Pages) (m after : Memory) (page : ℕ) : Type 0 where
-  pub fits : (live : List Extent) (rest : List ℕ) → HasHeaders pages m live (page ∷ rest) → HasBlocks pages after (kept_blocks (word_in m) pages.page page live) (page ∷ rest)
+  pub fits : (live : List Extent) (rest : List ℕ) → HasHeaders pages m live (page ∷ rest)
+      → HasBlocks pages after (kept_blocks (word_in m) pages.page page live) (page ∷ rest)
   pub words : (live : List Extent) (rest : List ℕ) → HasHeaders pages m live (page ∷ rest)
       → Each (λ x. (a : ℕ) → IsInside x a → word_in after a ≡ swept_word (word_in m) pages.page page x a) (kept_blocks (word_in m) pages.page page live)
   pub arenas : IsInArenas m after

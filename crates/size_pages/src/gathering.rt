@@ -5,20 +5,21 @@ ghost use Rattle.size_pages.specs.Growth.{IsOnlyOrder};
 ghost use Rattle.size_pages.specs.Calls.{NoneWaits};
 ghost use Rattle.size_pages.specs.Gathering.{IsListFrom, CanGather, IsOrder};
 
-use crate::Pages;
-use crate::words::load;
+use crate::kinds::CLASS_LISTS;
+use crate::{Pages, header};
 use heap_space::Space;
 
 /// Appends the pages of the list that begins at `first`. There is room for them.
 fn gather_list(order: &mut Vec<u64>, space: &Space, first: u64)
     requires { CanGather space.now first (vec_len order.old) (vec_capacity order.old) }
-    ensures gathered { (list : List ℕ) → IsListFrom space.now first list → order.new.items ≡ order.old.items ++ list }
+    ensures gathered { (list : List ℕ) → IsListFrom space.now first list
+        → order.new.items ≡ order.old.items ++ list }
     ensures room { vec_capacity order.new ≡ vec_capacity order.old }
 {
     let mut page = first;
     while page != 0 {
         order.push_reserved(page);
-        page = load(space, page + 4);
+        page = header::next(space, page);
     }
 }
 
@@ -30,7 +31,7 @@ impl Pages {
         ensures order { IsOnlyOrder self.old self.new }
     {
         self.order.clear();
-        for list in 2..self.heads.len() {
+        for list in CLASS_LISTS..self.heads.len() {
             gather_list(&mut self.order, space, self.heads[list]);
         }
         self.order.sort_unstable();

@@ -1,16 +1,18 @@
 //! Pages that are begun, and arenas that are added for them.
 
-ghost use Rattle.std.specs.Prelude.{◌≡◌, ℕ, ◌+◌, ◌*◌, ◌^◌, ◌<◌, ◌≤◌, List, length, vec_capacity, IfOk, OnOk, OnErr};
+ghost use Rattle.std.specs.Prelude.{◌≡◌, ℕ, ◌+◌, ◌*◌, ◌^◌, ◌<◌, ◌≤◌, List, length, vec_capacity};
+ghost use Rattle.std.specs.Prelude.{IfOk, OnOk, OnErr};
 ghost use Rattle.heap_space.specs.Memory.{Memory};
 ghost use Rattle.heap_space.specs.Extents.{Extent};
-ghost use Rattle.size_pages.specs.PageWords.{word_in, Starts, IsInArenas};
+ghost use Rattle.size_pages.specs.PageWords.{word_in, IsInArenas};
+ghost use Rattle.size_pages.specs.PageBlocks.{Starts};
 ghost use Rattle.size_pages.specs.LiveBlocks.{page_at};
 ghost use Rattle.size_pages.specs.HasBlocks.{HasBlocks, Stands};
-ghost use Rattle.size_pages.specs.Growth.{FindsUnused, MakesUnused, IsOnlyOrder, AddsPages, KeepsBlocks, CanBegin, BeginsPage};
+ghost use Rattle.size_pages.specs.Growth.{FindsUnused, MakesUnused, IsOnlyOrder, AddsPages};
+ghost use Rattle.size_pages.specs.Growth.{KeepsBlocks, CanBegin, BeginsPage};
 
 use crate::blocks::start_class;
-use crate::words::load;
-use crate::{ARENAS, Pages};
+use crate::{ARENAS, Pages, header};
 use heap_space::Space;
 use std::alloc::AllocError;
 
@@ -19,7 +21,8 @@ impl Pages {
     pub(crate) fn grow_heads(&mut self) -> Result<(), AllocError>
         requires { self.old.small ≤ 8192 }
         ensures long { OnOk result (2 * self.old.small + 2 ≤ length self.new.heads.items) }
-        ensures keeps { (m : Memory) (live : List Extent) (waiting : List ℕ) → HasBlocks self.old m live waiting → HasBlocks self.new m live waiting }
+        ensures keeps { (m : Memory) (live : List Extent) (waiting : List ℕ)
+            → HasBlocks self.old m live waiting → HasBlocks self.new m live waiting }
         ensures heads { self.new ≡ record self.old { heads = self.new.heads } }
     {
         let wanted = (2 * self.small + 2) as usize;
@@ -64,7 +67,7 @@ impl Pages {
         ensures { FindsUnused self.old self.new space.now }
     {
         let mut number = self.lowest;
-        while number < self.count && load(space, ARENAS + number * self.page) != 0 {
+        while number < self.count && header::class(space, ARENAS + number * self.page) != 0 {
             number += 1;
         }
         self.lowest = number;
@@ -101,7 +104,8 @@ impl Pages {
     /// Room for the places of all pages, with those of an arena more.
     fn grow_order(&mut self) -> Result<(), AllocError>
         requires { self.old.count + self.old.pages_per_arena < 2 ^ 62 }
-        ensures room { OnOk result (self.new.count + self.new.pages_per_arena ≤ vec_capacity self.new.order) }
+        ensures room { OnOk result (self.new.count + self.new.pages_per_arena ≤ vec_capacity
+            self.new.order) }
         ensures order { IsOnlyOrder self.old self.new }
     {
         self.order

@@ -5,6 +5,7 @@ ghost use Rattle.heap_space.specs.Extents.{Extent};
 ghost use Rattle.size_pages.specs.Headers.{HasHeaders, StandsWithHeaders, AppendsLive, HoldsMore};
 ghost use Rattle.size_pages.specs.Listing.{CanListBlocks, ListsBlocks};
 
+use crate::header::{self, HEADER};
 use crate::words::load;
 use crate::{ARENAS, Pages};
 use heap_space::Space;
@@ -18,7 +19,9 @@ impl Pages {
     /// memory. What `out` held stands before it then, and what stands behind that is not said.
     pub fn live_blocks(&self, space: &Space, out: &mut Vec<(u64, u64)>) -> Result<(), AllocError>
         requires { StandsWithHeaders self.now space.now }
-        ensures listed { (live : List Extent) (waiting : List ℕ) → HasHeaders self.now space.now live waiting → OnOk result (AppendsLive out.old.items out.new.items live) }
+        ensures listed { (live : List Extent) (waiting : List ℕ)
+            → HasHeaders self.now space.now live waiting
+            → OnOk result (AppendsLive out.old.items out.new.items live) }
         ensures err { OnErr result (HoldsMore out.old.items out.new.items) }
     {
         for number in 0..self.count {
@@ -35,16 +38,17 @@ impl Pages {
         out: &mut Vec<(u64, u64)>,
     ) -> Result<(), AllocError>
         requires { CanListBlocks self.now space.now page }
-        ensures listed { OnOk result (ListsBlocks self.now space.now page out.old.items out.new.items) }
+        ensures listed { OnOk result (ListsBlocks self.now space.now page out.old.items
+            out.new.items) }
         ensures more { HoldsMore out.old.items out.new.items }
     {
-        let class = load(space, page);
+        let class = header::class(space, page);
         if class == 0 {
             return Ok(());
         }
-        let count = (load(space, page + 3) - (page + 8)) / class;
+        let count = (header::first_fresh(space, page) - (page + HEADER)) / class;
         for slot in 0..count {
-            let block = page + 8 + slot * class;
+            let block = page + HEADER + slot * class;
             if !is_set(load(space, block), Flag::Free) {
                 out.push((block, class))?;
             }

@@ -1,21 +1,23 @@
 //! Pages that leave a list, change, and go on another.
 
-ghost use Rattle.std.specs.Prelude.{◌≡◌, ◌≢◌, ℕ, ◌+◌, ◌-◌, ◌*◌, ◌/◌, ◌<◌, ◌≤◌, List, ◌∷◌, length, slice_index, IfOk, OnErr};
+ghost use Rattle.std.specs.Prelude.{◌≡◌, ◌≢◌, ℕ, ◌+◌, ◌-◌, ◌*◌, ◌/◌, ◌<◌, ◌≤◌, List, ◌∷◌, length};
+ghost use Rattle.std.specs.Prelude.{slice_index, IfOk, OnErr};
 ghost use Rattle.heap_space.specs.Extents.{Extent, KeepsWords};
 ghost use Rattle.size_pages.specs.PageWords.{word_in, IsInArenas};
+ghost use Rattle.size_pages.specs.PageHeader.{blocks_at};
 ghost use Rattle.size_pages.specs.PageLists.{IsPage, SameSigns, Unlinks, Links};
 ghost use Rattle.size_pages.specs.HasBlocks.{HasBlocks, HasBlocksBut, Stands, IsLive};
-ghost use Rattle.size_pages.specs.Steps.{TakesNext, IsOnlyHeads, CanTakeOff, CanPutOn, CanEnd, CanGiveFull, CanTakeUnlisted, StaysOpen};
+ghost use Rattle.size_pages.specs.Kinds.{kind_number};
+ghost use Rattle.size_pages.specs.Steps.{TakesNext, IsOnlyHeads, CanTakeOff, CanPutOn, CanEnd};
+ghost use Rattle.size_pages.specs.Steps.{CanGiveFull, CanTakeUnlisted, StaysOpen};
 ghost use Rattle.size_pages.specs.Growth.{IsLowered, KeepsBlocks};
 ghost use Rattle.size_pages.specs.Calls.{page_of};
 ghost use Rattle.size_pages.specs.Moves.{FindsPage, TakesListed, GivesBlock};
 
-use crate::blocks::{
-    FULL, ROOM, WAITING, clear_page, keeps_room, kind_of, put_on_chain, take_from,
-};
-use crate::links::{link, unlink};
-use crate::words::load;
-use crate::{ARENAS, Pages};
+use crate::blocks::{clear_page, keeps_room, put_on_chain, right_kind, take_from};
+use crate::kinds::PageKind;
+use crate::links::{first, link, unlink};
+use crate::{ARENAS, Pages, header};
 use heap_space::Space;
 use std::alloc::AllocError;
 
@@ -32,8 +34,11 @@ impl Pages {
     /// Takes the page off its list, which is not that of the waiting pages.
     pub(crate) fn take_off(&mut self, space: &mut Space, page: u64, list: usize)
         requires { CanTakeOff self.old space.old page list }
-        ensures off { (live : List Extent) (waiting : List ℕ) → HasBlocks self.old space.old live waiting → HasBlocksBut self.new space.new live waiting page }
-        ensures unlinks { Unlinks (word_in space.old) (word_in space.new) self.old.heads.items self.new.heads.items page list }
+        ensures off { (live : List Extent) (waiting : List ℕ)
+            → HasBlocks self.old space.old live waiting
+            → HasBlocksBut self.new space.new live waiting page }
+        ensures unlinks { Unlinks (word_in space.old) (word_in space.new) self.old.heads.items
+            self.new.heads.items page list }
         ensures signs { SameSigns (word_in space.old) (word_in space.new) page }
         ensures heads { IsOnlyHeads self.old self.new }
         ensures arenas { IsInArenas space.old space.new }
@@ -42,10 +47,13 @@ impl Pages {
     }
 
     /// Puts the page in front of the list, which is not that of the waiting pages.
-    pub(crate) fn put_on(&mut self, space: &mut Space, page: u64, list: usize, kind: u64)
-        requires { CanPutOn self.old space.old page list kind }
-        ensures on { (live : List Extent) (waiting : List ℕ) → HasBlocksBut self.old space.old live waiting page → HasBlocksBut self.new space.new live waiting 0 }
-        ensures links { Links (word_in space.old) (word_in space.new) self.old.heads.items self.new.heads.items page list kind }
+    pub(crate) fn put_on(&mut self, space: &mut Space, page: u64, list: usize, kind: PageKind)
+        requires { CanPutOn self.old space.old page list (kind_number kind) }
+        ensures on { (live : List Extent) (waiting : List ℕ)
+            → HasBlocksBut self.old space.old live waiting page
+            → HasBlocksBut self.new space.new live waiting 0 }
+        ensures links { Links (word_in space.old) (word_in space.new) self.old.heads.items
+            self.new.heads.items page list (kind_number kind) }
         ensures heads { IsOnlyHeads self.old self.new }
         ensures arenas { IsInArenas space.old space.new }
     {
@@ -55,18 +63,22 @@ impl Pages {
     /// Takes a block of n words from a page that is on no list, and puts the page on its list.
     pub(crate) fn take_unlisted(&mut self, space: &mut Space, page: u64, n: u64) -> u64
         requires { CanTakeUnlisted self.old space.old page n }
-        ensures taken { (live : List Extent) (waiting : List ℕ) → HasBlocksBut self.old space.old live waiting page → HasBlocksBut self.new space.new ((result, n) ∷ live) waiting 0 }
-        ensures kept { (live : List Extent) (waiting : List ℕ) → HasBlocksBut self.old space.old live waiting page → KeepsWords space.old space.new live }
+        ensures taken { (live : List Extent) (waiting : List ℕ)
+            → HasBlocksBut self.old space.old live waiting page
+            → HasBlocksBut self.new space.new ((result, n) ∷ live) waiting 0 }
+        ensures kept { (live : List Extent) (waiting : List ℕ)
+            → HasBlocksBut self.old space.old live waiting page
+            → KeepsWords space.old space.new live }
         ensures cleared { word_in space.new result ≡ 0 }
-        ensures place { (page + 8 ≤ result) × (result + n ≤ page + self.old.page) }
+        ensures place { (blocks_at page ≤ result) × (result + n ≤ page + self.old.page) }
         ensures page { page ≡ page_of self.old.page result }
         ensures next { TakesNext (word_in space.old) page result }
         ensures heads { IsOnlyHeads self.old self.new }
         ensures arenas { IsInArenas space.old space.new }
     {
         let block = take_from(space, page, n);
-        let kind = kind_of(space, page, n, page + self.page);
-        self.put_on(space, page, (2 * n + (kind - 1)) as usize, kind);
+        let kind = right_kind(space, page, n, page + self.page);
+        self.put_on(space, page, kind.list(n), kind);
         block
     }
 
@@ -87,7 +99,8 @@ impl Pages {
         requires heads { 2 * self.now.small + 2 ≤ length self.now.heads.items }
         ensures { result ≢ 0 → StaysOpen self.now space.now result n }
     {
-        let page = self.heads[(2 * n) as usize];
+        let list = PageKind::Room.list(n);
+        let page = first(&self.heads, list);
         if page == 0 {
             return 0;
         }
@@ -115,11 +128,12 @@ impl Pages {
         ensures err { OnErr result (space.new ≡ space.old) }
         ensures err_blocks { OnErr result (KeepsBlocks self.old self.new space.old) }
     {
-        let page = self.heads[(2 * n) as usize];
+        let list = PageKind::Room.list(n);
+        let page = first(&self.heads, list);
         if page == 0 {
             return self.start_page(space, n);
         }
-        self.take_off(space, page, (2 * n) as usize);
+        self.take_off(space, page, list);
         Ok(page)
     }
 
@@ -130,17 +144,18 @@ impl Pages {
         requires page { page ≡ page_of self.old.page a }
         ensures { GivesBlock self.old self.new space.old space.new page a n }
     {
-        let kind = load(space, page + 6);
-        let live = load(space, page + 2);
-        if kind == WAITING {
+        let kind = header::kind(space, page);
+        let live = header::live_count(space, page);
+        let waits = kind.is_waiting();
+        if waits {
             put_on_chain(space, page, a);
             return;
         }
         if live == 1 {
-            self.end_page(space, page, a, n, (2 * n + (kind - 1)) as usize);
+            self.end_page(space, page, a, n, kind.list(n));
             return;
         }
-        if kind == FULL {
+        if kind.is_full() {
             self.give_back_full(space, page, a, n);
             return;
         }
@@ -162,8 +177,8 @@ impl Pages {
         requires { CanGiveFull self.old space.old page a n }
         ensures { GivesBlock self.old self.new space.old space.new page a n }
     {
-        self.take_off(space, page, (2 * n + 1) as usize);
+        self.take_off(space, page, PageKind::Full.list(n));
         put_on_chain(space, page, a);
-        self.put_on(space, page, (2 * n) as usize, ROOM);
+        self.put_on(space, page, PageKind::Room.list(n), PageKind::Room);
     }
 }

@@ -2,17 +2,24 @@
 
 ghost use Rattle.std.specs.Prelude.{◌≡◌, ℕ, ◌+◌, ◌-◌, ◌/◌, ◌<◌, ◌≤◌, ◌∷◌, List, OnOk, OnErr};
 ghost use Rattle.heap_space.specs.Extents.{Extent};
-ghost use Rattle.size_pages.specs.PageWords.{word_in, HasAll, IsInArenas};
-ghost use Rattle.size_pages.specs.HasBlocks.{page_size, HasBlocks, HasBlocksBut, Stands, KeepsSizes};
+ghost use Rattle.size_pages.specs.PageWords.{word_in, IsInArenas};
+ghost use Rattle.size_pages.specs.PageHeader.{first_fresh, HasPageHeader, blocks_at};
+ghost use Rattle.size_pages.specs.HasBlocks.{page_size, HasBlocks, HasBlocksBut, Stands};
+ghost use Rattle.size_pages.specs.HasBlocks.{KeepsSizes};
+ghost use Rattle.size_pages.specs.Kinds.{list_index};
+ghost use Rattle.size_pages.specs.declared.kinds.PageKind.TheVariants.{Waiting};
 ghost use Rattle.size_pages.specs.PageLists.{SameSigns, Unlinks};
 ghost use Rattle.size_pages.specs.Headers.{HasHeaders};
 ghost use Rattle.size_pages.specs.SweepSteps.{IsOnlyLists};
 ghost use Rattle.size_pages.specs.Sweeping.{CanSweep, SweepsPage, is_dead};
-ghost use Rattle.size_pages.specs.SlotSteps.{CanSweepAt, CanSweepSlot, GathersBirths, HoldsNumbers, SweepsBlocks, SweepsSlot, CanRelist, Relists};
+ghost use Rattle.size_pages.specs.SlotSteps.{CanSweepAt, CanSweepSlot, GathersBirths, HoldsNumbers};
+ghost use Rattle.size_pages.specs.SlotSteps.{SweepsBlocks, SweepsSlot, CanRelist, Relists};
 
 use crate::Pages;
-use crate::blocks::{clear_page, kind_of, put_on_chain};
-use crate::links::unlink;
+use crate::blocks::{clear_page, put_on_chain, right_kind};
+use crate::header::{self, HEADER};
+use crate::kinds::WAITING_LIST;
+use crate::links::{first, unlink};
 use crate::words::{load, store};
 use heap_space::Space;
 use object_header::{Flag, clear, is_set};
@@ -27,12 +34,12 @@ fn is_dead(word: u64) -> bool
 
 /// How many blocks of the page were handed out ever.
 fn slots(space: &Space, page: u64, class: u64) -> u64
-    requires header { HasAll space.now page (page + 8) }
+    requires header { HasPageHeader space.now page }
     requires class { 0 < class }
-    requires fresh { page + 8 ≤ word_in space.now (page + 3) }
-    ensures { result ≡ (word_in space.now (page + 3) - (page + 8)) / class }
+    requires fresh { blocks_at page ≤ first_fresh (word_in space.now) page }
+    ensures { result ≡ (first_fresh (word_in space.now) page - blocks_at page) / class }
 {
-    (load(space, page + 3) - (page + 8)) / class
+    (header::first_fresh(space, page) - (page + HEADER)) / class
 }
 
 impl Pages {
@@ -44,7 +51,10 @@ impl Pages {
     /// memory, and leaves everything as it was.
     pub fn sweep_page(&mut self, space: &mut Space, freed: &mut Vec<u64>) -> Result<(), AllocError>
         requires { CanSweep self.old space.old }
-        ensures swept { (live : List Extent) (page : ℕ) (rest : List ℕ) → HasHeaders self.old space.old live (page ∷ rest) → OnOk result (SweepsPage self.new space.old space.new (page_size self.old) live page rest freed.old.items freed.new.items) }
+        ensures swept { (live : List Extent) (page : ℕ) (rest : List ℕ)
+            → HasHeaders self.old space.old live (page ∷ rest)
+            → OnOk result (SweepsPage self.new space.old space.new (page_size self.old) live page
+            rest freed.old.items freed.new.items) }
         ensures err { OnErr result (self.new ≡ self.old) }
         ensures err_space { OnErr result (space.new ≡ space.old) }
         ensures err_freed { OnErr result (freed.new.items ≡ freed.old.items) }
@@ -52,7 +62,7 @@ impl Pages {
         ensures stands { Stands self.new space.new }
         ensures sizes { KeepsSizes self.old self.new }
     {
-        let page = self.heads[1];
+        let page = first(&self.heads, WAITING_LIST);
         self.gather(space, page, freed)?;
         self.sweep_blocks(space, page);
         self.relist(space, page);
@@ -62,7 +72,8 @@ impl Pages {
     /// Appends the births of the page's objects that were not visited, or nothing.
     fn gather(&self, space: &Space, page: u64, freed: &mut Vec<u64>) -> Result<(), AllocError>
         requires { CanSweepAt self.now space.now page }
-        ensures gathered { OnOk result (GathersBirths self.now space.now page freed.old.items freed.new.items) }
+        ensures gathered { OnOk result (GathersBirths self.now space.now page freed.old.items
+            freed.new.items) }
         ensures err { OnErr result (freed.new.items ≡ freed.old.items) }
     {
         let before = freed.len();
@@ -81,13 +92,14 @@ impl Pages {
         freed: &mut Vec<u64>,
     ) -> Result<(), AllocError>
         requires { CanSweepAt self.now space.now page }
-        ensures gathered { OnOk result (GathersBirths self.now space.now page freed.old.items freed.new.items) }
+        ensures gathered { OnOk result (GathersBirths self.now space.now page freed.old.items
+            freed.new.items) }
         ensures more { HoldsNumbers freed.old.items freed.new.items }
     {
-        let class = load(space, page);
+        let class = header::class(space, page);
         let count = slots(space, page, class);
         for slot in 0..count {
-            let block = page + 8 + slot * class;
+            let block = page + HEADER + slot * class;
             let word = load(space, block);
             if !is_set(word, Flag::Free) && is_dead(word) {
                 freed.push(load(space, block + 1))?;
@@ -102,10 +114,10 @@ impl Pages {
         requires { CanSweepAt self.now space.old page }
         ensures { SweepsBlocks self.now space.old space.new page }
     {
-        let class = load(space, page);
+        let class = header::class(space, page);
         let count = slots(space, page, class);
         for slot in 0..count {
-            sweep_slot(space, page, page + 8 + slot * class);
+            sweep_slot(space, page, page + HEADER + slot * class);
         }
     }
 
@@ -115,26 +127,29 @@ impl Pages {
         ensures { Relists self.old self.new space.old space.new page }
     {
         self.take_off_first(space, page);
-        if load(space, page + 2) == 0 {
+        if header::live_count(space, page) == 0 {
             self.lower(page);
             clear_page(space, page);
             return;
         }
-        let class = load(space, page);
-        let kind = kind_of(space, page, class, page + self.page);
-        self.put_on(space, page, (2 * class + (kind - 1)) as usize, kind);
+        let class = header::class(space, page);
+        let kind = right_kind(space, page, class, page + self.page);
+        self.put_on(space, page, kind.list(class), kind);
     }
 
     /// Takes the first waiting page off its list.
     fn take_off_first(&mut self, space: &mut Space, page: u64)
         requires { CanRelist self.old space.old page }
-        ensures off { (live : List Extent) (rest : List ℕ) → HasBlocks self.old space.old live (page ∷ rest) → HasBlocksBut self.new space.new live rest page }
-        ensures unlinks { Unlinks (word_in space.old) (word_in space.new) self.old.heads.items self.new.heads.items page 1 }
+        ensures off { (live : List Extent) (rest : List ℕ)
+            → HasBlocks self.old space.old live (page ∷ rest)
+            → HasBlocksBut self.new space.new live rest page }
+        ensures unlinks { Unlinks (word_in space.old) (word_in space.new) self.old.heads.items
+            self.new.heads.items page (list_index Waiting 0) }
         ensures signs { SameSigns (word_in space.old) (word_in space.new) page }
         ensures lists { IsOnlyLists self.old self.new }
         ensures arenas { IsInArenas space.old space.new }
     {
-        unlink(&mut self.heads, space, page, 1);
+        unlink(&mut self.heads, space, page, WAITING_LIST);
         self.waiting -= 1;
     }
 }

@@ -7,14 +7,14 @@ use Rattle.size_pages.specs.Sweeping.{is_dead}
 use Rattle.size_pages.proofs.Pages.gather_births.Goals.{then-not-is_set+then-is_dead+in_ok-push, else-not-is_set, else-not-is_set-via-then-not-is_set+else-is_dead, else-not-is_set-via-else-not-is_set}
 use Rattle.size_pages.proofs.Pages.gather_births.Goals as goal
 
-pub load-class-requires : goal.load-class-requires
-load-class-requires c = let g = swept_page c.args.self.now c.args.space.now c.args.page c.requires in let wide : 64 ≤ c.args.self.now.page = g.wide in g.all c.args.page (omega arith) (omega arith)
+pub class-class-requires : goal.class-class-requires
+class-class-requires c = let g = swept_page c.args.self.now c.args.space.now c.args.page c.requires in let wide : 64 ≤ c.args.self.now.page = g.wide in g.all c.args.page (omega arith) (omega arith)
 
 pub slots-count-requires-clause-header : goal.slots-count-requires-clause-header
 slots-count-requires-clause-header c b low high = let g = swept_page c.args.self.now c.args.space.now c.args.page c.requires in let wide : 64 ≤ c.args.self.now.page = g.wide in g.all b low (omega arith)
 
 pub slots-count-requires-clause-class : goal.slots-count-requires-clause-class
-slots-count-requires-clause-class c = let g = swept_page c.args.self.now c.args.space.now c.args.page c.requires in let two : 2 ≤ word_in c.args.space.now c.args.page = g.slots.words in omega (arith, c.load-class.ensures)
+slots-count-requires-clause-class c = let g = swept_page c.args.self.now c.args.space.now c.args.page c.requires in let two : 2 ≤ word_in c.args.space.now c.args.page = g.slots.words in omega (arith, c.class-class.ensures)
 
 pub slots-count-requires-clause-fresh : goal.slots-count-requires-clause-fresh
 slots-count-requires-clause-fresh c = (swept_page c.args.self.now c.args.space.now c.args.page c.requires).slots.fresh_low
@@ -22,21 +22,21 @@ slots-count-requires-clause-fresh c = (swept_page c.args.self.now c.args.space.n
 pub loop-slot-init : goal.loop-slot-init
 loop-slot-init c =
     let g = swept_page c.args.self.now c.args.space.now c.args.page c.requires in
-    let some : c.load-class.result ≢ 0 = λ z. g.used (sym c.load-class.ensures ∙ z) in
-    births_none c.args.self.now c.args.space.now c.args.page c.load-class.result g.can c.load-class.ensures some c.args.freed.now.items
+    let some : c.class-class.result ≢ 0 = λ z. g.used (sym c.class-class.ensures ∙ z) in
+    births_none c.args.self.now c.args.space.now c.args.page c.class-class.result g.can c.class-class.ensures some c.args.freed.now.items
 
 pub load-word-requires : goal.load-word-requires
-load-word-requires c = slot_word c.args.self.now c.args.space.now c.args.page c.load-class.result c.slots-count.result c.requires c.load-class.ensures c.slots-count.ensures c.loop-slot.slot c.loop-slot-test.true
+load-word-requires c = slot_word c.args.self.now c.args.space.now c.args.page c.class-class.result c.slots-count.result c.requires c.class-class.ensures c.slots-count.ensures c.loop-slot.slot c.loop-slot-test.true
 
 pub load-requires : goal.load-requires
-load-requires c = slot_birth c.args.self.now c.args.space.now c.args.page c.load-class.result c.slots-count.result c.requires c.load-class.ensures c.slots-count.ensures c.loop-slot.slot c.loop-slot-test.true
+load-requires c = slot_birth c.args.self.now c.args.space.now c.args.page c.class-class.result c.slots-count.result c.requires c.class-class.ensures c.slots-count.ensures c.loop-slot.slot c.loop-slot-test.true
 
 pub loop-slot-preserved : goal.loop-slot-preserved
 loop-slot-preserved c =
     let g = swept_page c.args.self.now c.args.space.now c.args.page c.requires in
-    let some : c.load-class.result ≢ 0 = λ z. g.used (sym c.load-class.ensures ∙ z) in
+    let some : c.class-class.result ≢ 0 = λ z. g.used (sym c.class-class.ensures ∙ z) in
     let flag = c.is_set.ensures ∙ ap (λ (k : ℕ). has_flag k Free) c.load-word.ensures in
-    births_slot c.args.self.now c.args.space.now c.args.page c.load-class.result g.can c.load-class.ensures some c.loop-slot.slot c.args.freed.now.items c.loop-slot.freed.items c.if-not-is_set.freed.items (slot_in c.args.self.now c.args.space.now c.args.page c.load-class.result c.slots-count.result c.requires c.load-class.ensures c.slots-count.ensures c.loop-slot.slot c.loop-slot-test.true) c.loop-slot.invariant
+    births_slot c.args.self.now c.args.space.now c.args.page c.class-class.result g.can c.class-class.ensures some c.loop-slot.slot c.args.freed.now.items c.loop-slot.freed.items c.if-not-is_set.freed.items (slot_in c.args.self.now c.args.space.now c.args.page c.class-class.result c.slots-count.result c.requires c.class-class.ensures c.slots-count.ensures c.loop-slot.slot c.loop-slot-test.true) c.loop-slot.invariant
     (elim c.if-not-is_set.branch [
       | then-not-is_set+then-is_dead+in_ok-push w ↦ inr (inr (sym flag ∙ w.if-not-is_set.true, ap is_dead (sym c.load-word.ensures) ∙ sym w.is_dead.ensures ∙ w.if-is_dead.true, (cc (w.freed-is, w.in_ok-push.ensures.items, w.load.ensures))))
       | else-not-is_set w ↦ elim w.else-not-is_set.branch [
@@ -48,6 +48,6 @@ loop-slot-preserved c =
 pub returns-clause-gathered : goal.returns-clause-gathered
 returns-clause-gathered c =
     let g = swept_page c.args.self.now c.args.space.now c.args.page c.requires in
-    let some : c.load-class.result ≢ 0 = λ z. g.used (sym c.load-class.ensures ∙ z) in
-    births_end c.args.self.now c.args.space.now c.args.page c.load-class.result g.can c.load-class.ensures some c.args.freed.now.items c.loop-slot.freed.items (c.args.page + 8 + c.loop-slot.slot * c.load-class.result)
-    (slots_end c.args.self.now c.args.space.now c.args.page c.load-class.result c.slots-count.result c.requires c.load-class.ensures c.slots-count.ensures c.loop-slot.slot (omega (arith, c.loop-slot-test.false, c.loop-slot.auto.slot-end))) c.loop-slot.invariant
+    let some : c.class-class.result ≢ 0 = λ z. g.used (sym c.class-class.ensures ∙ z) in
+    births_end c.args.self.now c.args.space.now c.args.page c.class-class.result g.can c.class-class.ensures some c.args.freed.now.items c.loop-slot.freed.items (c.args.page + 8 + c.loop-slot.slot * c.class-class.result)
+    (slots_end c.args.self.now c.args.space.now c.args.page c.class-class.result c.slots-count.result c.requires c.class-class.ensures c.slots-count.ensures c.loop-slot.slot (omega (arith, c.loop-slot-test.false, c.loop-slot.auto.slot-end))) c.loop-slot.invariant

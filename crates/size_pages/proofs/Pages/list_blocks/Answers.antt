@@ -6,34 +6,34 @@ use Rattle.object_header.specs.declared.flags.Flag.TheVariants.{Free}
 use Rattle.size_pages.proofs.Pages.list_blocks.Goals.{then-not-is_set+in_ok-push, else-not-is_set}
 use Rattle.size_pages.proofs.Pages.list_blocks.Goals as goal
 
-pub load-class-requires : goal.load-class-requires
-load-class-requires c = let g = listed_page c.args.self.now c.args.space.now c.args.page c.requires in let wide : 64 ≤ c.args.self.now.page = g.wide in g.all c.args.page (omega arith) (omega arith)
+pub class-class-requires : goal.class-class-requires
+class-class-requires c = let g = listed_page c.args.self.now c.args.space.now c.args.page c.requires in let wide : 64 ≤ c.args.self.now.page = g.wide in g.all c.args.page (omega arith) (omega arith)
 
-pub load-requires : goal.load-requires
-load-requires c = let g = listed_page c.args.self.now c.args.space.now c.args.page c.requires in let wide : 64 ≤ c.args.self.now.page = g.wide in g.all (c.args.page + 3) (omega arith) (omega arith)
+pub first_fresh-requires : goal.first_fresh-requires
+first_fresh-requires c = let g = listed_page c.args.self.now c.args.space.now c.args.page c.requires in let wide : 64 ≤ c.args.self.now.page = g.wide in g.all (c.args.page + 3) (omega arith) (omega arith)
 
 pub returns-then-class-eq0-clause-listed : goal.returns-then-class-eq0-clause-listed
-returns-then-class-eq0-clause-listed c = unused_lists c.args.self.now c.args.space.now c.args.page c.load-class.result c.requires c.load-class.ensures c.if-class-eq0.true c.args.out.now.items
+returns-then-class-eq0-clause-listed c = unused_lists c.args.self.now c.args.space.now c.args.page c.class-class.result c.requires c.class-class.ensures c.if-class-eq0.true c.args.out.now.items
 
 pub loop-slot-init : goal.loop-slot-init
-loop-slot-init c = lists_begin c.args.self.now c.args.space.now c.args.page c.load-class.result c.requires c.load-class.ensures c.if-class-eq0.false c.args.out.now.items
+loop-slot-init c = lists_begin c.args.self.now c.args.space.now c.args.page c.class-class.result c.requires c.class-class.ensures c.if-class-eq0.false c.args.out.now.items
 
-pub load-requires-in-loop-slot : goal.load-requires-in-loop-slot
-load-requires-in-loop-slot c =
+pub load-requires : goal.load-requires
+load-requires c =
     let g = listed_page c.args.self.now c.args.space.now c.args.page c.requires in
-    let s = slots_of c.args.self.now c.args.space.now c.args.page c.load-class.result c.requires c.load-class.ensures c.if-class-eq0.false in
-    let count = slots_count (word_in c.args.space.now) c.args.self.now.page c.args.page c.load.result c.load-class.result s c.load.ensures c.load-class.ensures in
-    let inside = slot_inside (word_in c.args.space.now) c.args.self.now.page c.args.page c.loop-slot.slot c.load-class.result s c.load-class.ensures (omega (arith, count, c.loop-slot-test.true)) in
+    let s = slots_of c.args.self.now c.args.space.now c.args.page c.class-class.result c.requires c.class-class.ensures c.if-class-eq0.false in
+    let count = slots_count (word_in c.args.space.now) c.args.self.now.page c.args.page c.first_fresh.result c.class-class.result s c.first_fresh.ensures c.class-class.ensures in
+    let inside = slot_inside (word_in c.args.space.now) c.args.self.now.page c.args.page c.loop-slot.slot c.class-class.result s c.class-class.ensures (omega (arith, count, c.loop-slot-test.true)) in
     let high : word_in c.args.space.now (c.args.page + 3) ≤ c.args.page + c.args.self.now.page = s.fresh_high in
-    g.all (c.args.page + 8 + c.loop-slot.slot * c.load-class.result) (omega arith) (omega (arith, inside, c.if-class-eq0.false))
+    g.all (c.args.page + 8 + c.loop-slot.slot * c.class-class.result) (omega arith) (omega (arith, inside, c.if-class-eq0.false))
 
 pub loop-slot-preserved : goal.loop-slot-preserved
 loop-slot-preserved c =
-    let s = slots_of c.args.self.now c.args.space.now c.args.page c.load-class.result c.requires c.load-class.ensures c.if-class-eq0.false in
-    let count = slots_count (word_in c.args.space.now) c.args.self.now.page c.args.page c.load.result c.load-class.result s c.load.ensures c.load-class.ensures in
-    let inside = slot_inside (word_in c.args.space.now) c.args.self.now.page c.args.page c.loop-slot.slot c.load-class.result s c.load-class.ensures (omega (arith, count, c.loop-slot-test.true)) in
-    let flag = c.is_set.ensures ∙ ap (λ (k : ℕ). has_flag k Free) c.load-in-loop-slot.ensures in
-    lists_slot c.args.self.now c.args.space.now c.args.page c.load-class.result c.requires c.load-class.ensures c.if-class-eq0.false c.loop-slot.slot c.args.out.now.items c.loop-slot.out.items c.if-not-is_set.out.items (omega (arith, inside, c.if-class-eq0.false)) c.loop-slot.invariant
+    let s = slots_of c.args.self.now c.args.space.now c.args.page c.class-class.result c.requires c.class-class.ensures c.if-class-eq0.false in
+    let count = slots_count (word_in c.args.space.now) c.args.self.now.page c.args.page c.first_fresh.result c.class-class.result s c.first_fresh.ensures c.class-class.ensures in
+    let inside = slot_inside (word_in c.args.space.now) c.args.self.now.page c.args.page c.loop-slot.slot c.class-class.result s c.class-class.ensures (omega (arith, count, c.loop-slot-test.true)) in
+    let flag = c.is_set.ensures ∙ ap (λ (k : ℕ). has_flag k Free) c.load.ensures in
+    lists_slot c.args.self.now c.args.space.now c.args.page c.class-class.result c.requires c.class-class.ensures c.if-class-eq0.false c.loop-slot.slot c.args.out.now.items c.loop-slot.out.items c.if-not-is_set.out.items (omega (arith, inside, c.if-class-eq0.false)) c.loop-slot.invariant
     (elim c.if-not-is_set.branch [
       | then-not-is_set+in_ok-push w ↦ inr (sym flag ∙ w.if-not-is_set.true, (cc (w.out-is, w.in_ok-push.ensures.items)))
       | else-not-is_set w ↦ inl (sym flag ∙ w.if-not-is_set.false, (cc (w.out-is)))
@@ -41,9 +41,9 @@ loop-slot-preserved c =
 
 pub returns-clause-listed : goal.returns-clause-listed
 returns-clause-listed c =
-    let s = slots_of c.args.self.now c.args.space.now c.args.page c.load-class.result c.requires c.load-class.ensures c.if-class-eq0.false in
-    let count = slots_count (word_in c.args.space.now) c.args.self.now.page c.args.page c.load.result c.load-class.result s c.load.ensures c.load-class.ensures in
-    lists_end c.args.self.now c.args.space.now c.args.page c.load-class.result c.requires c.load-class.ensures c.if-class-eq0.false c.args.out.now.items c.loop-slot.out.items c.loop-slot.slot s (omega (arith, count, c.loop-slot-test.false, c.loop-slot.auto.slot-end)) c.loop-slot.invariant
+    let s = slots_of c.args.self.now c.args.space.now c.args.page c.class-class.result c.requires c.class-class.ensures c.if-class-eq0.false in
+    let count = slots_count (word_in c.args.space.now) c.args.self.now.page c.args.page c.first_fresh.result c.class-class.result s c.first_fresh.ensures c.class-class.ensures in
+    lists_end c.args.self.now c.args.space.now c.args.page c.class-class.result c.requires c.class-class.ensures c.if-class-eq0.false c.args.out.now.items c.loop-slot.out.items c.loop-slot.slot s (omega (arith, count, c.loop-slot-test.false, c.loop-slot.auto.slot-end)) c.loop-slot.invariant
 
 pub returns-then-class-eq0-clause-more : goal.returns-then-class-eq0-clause-more
 returns-then-class-eq0-clause-more c = (listed_none c.args.self.now c.args.space.now c.args.out.now.items).holds

@@ -10,20 +10,15 @@ push_reserved-requires c =
     let n = walk_next c.args.space.now c.args.order.now.items c.loop-page.order.items c.loop-page.page c.requires.list c.loop-page-test.true (c.loop-page.invariant.1 c.requires.list c.requires.is_list) in
     omega (arith, n.few, c.requires.enough, c.loop-page.invariant.0, c.args.order.now.ok, c.loop-page.order.ok)
 
-pub overflow_add-page : goal.overflow_add-page
-overflow_add-page c =
-    let n = walk_next c.args.space.now c.args.order.now.items c.loop-page.order.items c.loop-page.page c.requires.list c.loop-page-test.true (c.loop-page.invariant.1 c.requires.list c.requires.is_list) in
-    omega (arith, n.word.high)
-
-pub load-page-requires : goal.load-page-requires
-load-page-requires c = (walk_next c.args.space.now c.args.order.now.items c.loop-page.order.items c.loop-page.page c.requires.list c.loop-page-test.true (c.loop-page.invariant.1 c.requires.list c.requires.is_list)).word
+pub next-page-requires : goal.next-page-requires
+next-page-requires c = (walk_next c.args.space.now c.args.order.now.items c.loop-page.order.items c.loop-page.page c.requires.list c.loop-page-test.true (c.loop-page.invariant.1 c.requires.list c.requires.is_list)).word
 
 pub loop-page-preserved : goal.loop-page-preserved
 loop-page-preserved c = (
   c.push_reserved.ensures.capacity ∙ c.loop-page.invariant.0,
   λ list h.
       let n = walk_next c.args.space.now c.args.order.now.items c.loop-page.order.items c.loop-page.page list c.loop-page-test.true (c.loop-page.invariant.1 list h) in
-      subst (λ (items : List ℕ). IsWalked c.args.space.now c.args.order.now.items items c.load-page.result list) (sym c.push_reserved.ensures.items) (subst (λ (page : ℕ). IsWalked c.args.space.now c.args.order.now.items (c.loop-page.order.items ++ c.loop-page.page ∷ []) page list) (sym c.load-page.ensures) n.walked),
+      subst (λ (items : List ℕ). IsWalked c.args.space.now c.args.order.now.items items c.next-page.result list) (sym c.push_reserved.ensures.items) (subst (λ (page : ℕ). IsWalked c.args.space.now c.args.order.now.items (c.loop-page.order.items ++ c.loop-page.page ∷ []) page list) (sym c.next-page.ensures) n.walked),
 )
 
 pub returns-clause-gathered : goal.returns-clause-gathered
