@@ -1,5 +1,5 @@
 -- The fields of `Areas` hold its memory: where each place has its word, and what each change of a field does.
-use Rattle.std.proofs.Common.{◌≡◌, ◌≢◌, ℕ, suc, ◌+◌, ◌-◌, ◌*◌, ◌/◌, ◌%◌, ◌^◌, ◌<◌, ◌≤◌, true, false, List, [], ◌∷◌, ◌++◌, length, set, get_or, map, sym, ap, ◌∙◌, subst, arith, length-append, length-set, append_assoc, append-nil}
+use Rattle.std.proofs.Common.{◌≡◌, ◌≢◌, ℕ, suc, ◌+◌, ◌-◌, ◌*◌, ◌/◌, ◌%◌, ◌^◌, ◌<◌, ◌≤◌, true, false, List, [], ◌∷◌, ◌++◌, length, set, get_or, map, refl, sym, ap, ◌∙◌, subst, arith, length-append, length-set, append_assoc, append-nil}
 use Rattle.std.proofs.lemmas.List.{set-append_left, set-append_right}
 use lib.ListN.{length-replicate}
 use Rattle.std.specs.Prelude.{slice_index, nat_lt}
@@ -7,13 +7,15 @@ use Rattle.std.specs.Vec.{with_item}
 use Rattle.std.specs.declared.vec.Vec.{Vec}
 use Rattle.std.specs.declared.alloc.Global.{Global}
 use Rattle.heap_space.specs.declared.areas.Areas.TheInside.{Inside}
-use Rattle.heap_space.specs.Places.{Placed, covers, end_of, has, word_at, with_word, zeros_at, with_block, is_base, RiseTo}
+use Rattle.heap_space.specs.Places.{Placed, covers, end_of, has, word_at, with_word, lies_in_one, with_run, zeros_at, with_block, is_base, RiseTo}
+use Rattle.heap_space.specs.Runs.{overlaid, with_words}
 use Rattle.heap_space.specs.Memory.{Memory, with_arena, with_large}
 use Rattle.heap_space.specs.Order.{IsInOrder}
 use Rattle.heap_space.specs.Seats.{AreArenas, IsSeat, full_blocks, seen, emptied, with_emptied}
 use Rattle.heap_space.specs.Areas.{nursery_block, memory_of, HasAreas}
-use Rattle.heap_space.proofs.Blocks.{covers-inside, covers-above, is_base-has}
-use Rattle.heap_space.proofs.Rising.{has-below, has-above, has-append, is_base-append, rise_le, rise-more, rise-less, rise-append, arenas-rise, arenas-append, arenas-set, rise-set, with_word-index, with_block-between}
+use Rattle.heap_space.proofs.Overlays.{length-overlaid, overlaid-behind, overlaid-shift}
+use Rattle.heap_space.proofs.Blocks.{covers-inside, covers-above, is_base-has, lies-has}
+use Rattle.heap_space.proofs.Rising.{has-below, has-above, has-append, is_base-append, rise_le, rise-more, rise-less, rise-append, arenas-rise, spans-here, arenas-append, arenas-set, rise-set, with_word-index, with_block-between}
 use Rattle.heap_space.proofs.Larges.{emptied-index, emptied-behind, full-append, full-full, rise-full}
 use Rattle.heap_space.proofs.Seats.{seat-nursery, seat-arena, seat-large, has-large, has-arenas, seat-word, seat-written, at-left, at-right}
 
@@ -124,6 +126,62 @@ module _ (s : Inside) (i : HasAreas s) (m : Memory) (e : memory_of s ≡ m) (a :
       let r : has (larges_of s) a ≡ has (memory_of s).blocks a = grind arith in
       r ∙ ap (λ (o : Memory). has o.blocks a) e
 
+-- blocks that lie behind the places of xs
+with_run-above : (from end a : ℕ) (xs : List ℕ) (ps : List Placed) → RiseTo from ps end → a + length xs ≤ from
+    → with_run ps a xs ≡ ps
+with_run-above from end a xs [] r l = refl
+with_run-above from end a xs (p ∷ ps) r l =
+    let low : from ≤ p.base = r.0 in
+    let here = overlaid-behind p.base p.words a xs (omega (arith, low, l)) in
+    let rest = with_run-above (end_of p) end a xs ps r.1 (omega (arith, low, l)) in
+    ap (λ (ws : List ℕ). record p { words = ws } ∷ with_run ps a xs) here ∙ ap (λ (qs : List Placed). p ∷ qs) rest
+
+-- a run of words in the nursery
+module _ (s : Inside) (i : HasAreas s) (m : Memory) (e : memory_of s ≡ m) (a n : ℕ) (z : 0 < n) (h : lies_in_one m.blocks a n ≡ true)
+    (l : a < 4294967296) where
+  first-lies : (1 ≤ a) × IsSeat m.blocks a 0 (a - 1)
+  first-lies = at-nursery s i m e a (lies-has m.blocks a n z h) l
+
+  run-ends : a + n ≤ end_of (nursery_of s)
+  run-ends =
+      let h' : lies_in_one (memory_of s).blocks a n ≡ true = subst (λ (o : Memory). lies_in_one o.blocks a n ≡ true) (sym e) h in
+      let t = subst (λ (o : Memory). IsSeat o.blocks a 0 (a - 1)) (sym e) first-lies.1 in
+      spans-here 1 s.next_large a n 0 (memory_of s).blocks (nursery_of s) (space-rises s i) t.inside z (t.covered (nursery_of s)) h'
+
+  pub run-in-nursery : (1 ≤ a) × ((a - 1) + n ≤ length s.nursery)
+  run-in-nursery = let k = first-lies.0 in (k, omega (arith, run-ends, k))
+
+  pub nursery-run : (ws xs : List ℕ) → length xs ≡ n → ws ≡ with_words s.nursery (a - 1) xs
+      → memory_of (record s { nursery = ws }) ≡ record m { blocks = with_run m.blocks a xs }
+  nursery-run ws xs f g =
+      let k = first-lies.0 in let back : (a - 1) + 1 ≡ a = omega (arith, k) in
+      let own : overlaid 1 s.nursery a xs ≡ with_words s.nursery (a - 1) xs =
+      ap (λ (b : ℕ). overlaid 1 s.nursery b xs) (sym back) ∙ overlaid-shift 0 s.nursery (a - 1) xs in
+      let rest : with_run (arenas_of s ++ larges_of s) a xs ≡ arenas_of s ++ larges_of s =
+      with_run-above 4294967296 s.next_large a xs (arenas_of s ++ larges_of s) (rest-rises s i) (omega (arith, run-ends, f, i.nursery_ends)) in
+      let all : nursery_block ws ∷ (arenas_of s ++ larges_of s) ≡ with_run (memory_of s).blocks a xs =
+      ap (λ (us : List ℕ). nursery_block us ∷ (arenas_of s ++ larges_of s)) (g ∙ sym own)
+      ∙ ap (λ (ps : List Placed). nursery_block (overlaid 1 s.nursery a xs) ∷ ps) (sym rest) in
+      ap (λ (bs : List Placed). record (memory_of s) { blocks = bs }) all
+      ∙ ap (λ (o : Memory). record o { blocks = with_run o.blocks a xs }) e
+
+-- other words of as many
+pub nursery-areas : (s : Inside) → HasAreas s → (ws xs : List ℕ) (at : ℕ) → ws ≡ with_words s.nursery at xs
+    → HasAreas (record s { nursery = ws })
+nursery-areas s i ws xs at g =
+    let long : length ws ≡ length s.nursery = ap length g ∙ length-overlaid 0 s.nursery at xs in
+    record {
+      nursery_some = rw long i.nursery_some;
+      nursery_ends = rw long i.nursery_ends;
+      arena_some = i.arena_some;
+      arena_most = i.arena_most;
+      arena_shift = i.arena_shift;
+      arenas = i.arenas;
+      arenas_end = i.arenas_end;
+      larges = i.larges;
+      large_small = i.large_small;
+    }
+
 -- the word of a seat, in the field that has it
 module _ (s : Inside) (i : HasAreas s) (m : Memory) (e : memory_of s ≡ m) (a w o : ℕ) (t : IsSeat m.blocks a w o) where
   sits : IsSeat (memory_of s).blocks a w o
@@ -202,6 +260,7 @@ module _ (s : Inside) (i : HasAreas s) (m : Memory) (e : memory_of s ≡ m) (a w
             nursery_ends = i.nursery_ends;
             arena_some = i.arena_some;
             arena_most = i.arena_most;
+            arena_shift = i.arena_shift;
             arenas = arenas-set 4294967296 s.arena_words k (arenas_of s) x y i.arenas kl base long;
             arenas_end = rw count i.arenas_end;
             larges = i.larges;
@@ -232,6 +291,7 @@ module _ (s : Inside) (i : HasAreas s) (m : Memory) (e : memory_of s ≡ m) (a w
             nursery_ends = i.nursery_ends;
             arena_some = i.arena_some;
             arena_most = i.arena_most;
+            arena_shift = i.arena_shift;
             arenas = i.arenas;
             arenas_end = i.arenas_end;
             larges = rise-set 1099511627776 s.next_large k (larges_of s) x y i.larges kl base (omega (arith, long));
@@ -266,6 +326,7 @@ module _ (s : Inside) (i : HasAreas s) (x : Placed) where
           nursery_ends = i.nursery_ends;
           arena_some = i.arena_some;
           arena_most = i.arena_most;
+          arena_shift = i.arena_shift;
           arenas = subst (AreArenas 4294967296 s.arena_words) (sym f) (arenas-append 4294967296 s.arena_words (arenas_of s) x i.arenas base long);
           arenas_end = omega (arith, next, l);
           larges = i.larges;
@@ -294,6 +355,7 @@ module _ (s : Inside) (i : HasAreas s) (x : Placed) where
           nursery_ends = i.nursery_ends;
           arena_some = i.arena_some;
           arena_most = i.arena_most;
+          arena_shift = i.arena_shift;
           arenas = i.arenas;
           arenas_end = i.arenas_end;
           larges = subst (λ (ps : List Placed). RiseTo 1099511627776 ps (s.next_large + n)) (sym f)
@@ -341,6 +403,7 @@ module _ (s : Inside) (i : HasAreas s) (m : Memory) (e : memory_of s ≡ m) (a :
           nursery_ends = i.nursery_ends;
           arena_some = i.arena_some;
           arena_most = i.arena_most;
+          arena_shift = i.arena_shift;
           arenas = i.arenas;
           arenas_end = i.arenas_end;
           larges = rise-set 1099511627776 s.next_large k (larges_of s) x y i.larges h' base short;
@@ -362,6 +425,7 @@ keep-full s i v f =
         nursery_ends = i.nursery_ends;
         arena_some = i.arena_some;
         arena_most = i.arena_most;
+        arena_shift = i.arena_shift;
         arenas = i.arenas;
         arenas_end = i.arenas_end;
         larges = subst (λ (ps : List Placed). RiseTo 1099511627776 ps s.next_large) (sym f) (rise-full 1099511627776 s.next_large back i.larges);

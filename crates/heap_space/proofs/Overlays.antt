@@ -16,6 +16,22 @@ pub overlaid-none : (base : ℕ) (words : List ℕ) (a : ℕ) (xs : List ℕ) �
 overlaid-none base [] a xs l = refl
 overlaid-none base (w ∷ ws) a xs l = let e = overlaid-none (base + 1) ws a xs (omega (arith, l)) in grind (arith, nat_tests)
 
+-- the places of xs lie before the words
+pub overlaid-behind : (base : ℕ) (words : List ℕ) (a : ℕ) (xs : List ℕ) → a + length xs ≤ base
+    → overlaid base words a xs ≡ words
+overlaid-behind base [] a xs l = refl
+overlaid-behind base (w ∷ ws) a xs l = let e = overlaid-behind (base + 1) ws a xs (omega (arith, l)) in grind (arith, nat_tests)
+
+-- words and places are numbered from one more
+pub overlaid-shift : (base : ℕ) (words : List ℕ) (a : ℕ) (xs : List ℕ)
+    → overlaid (base + 1) words (a + 1) xs ≡ overlaid base words a xs
+overlaid-shift base [] a xs = refl
+overlaid-shift base (w ∷ ws) a xs =
+    let e = overlaid-shift (base + 1) ws a xs in
+    let k : (base + 1) - (a + 1) ≡ base - a = omega arith in
+    let i : slice_index xs ((base + 1) - (a + 1)) ≡ slice_index xs (base - a) = ap (slice_index xs) k in
+    grind (arith, nat_tests)
+
 -- the first of xs lies before the words
 pub overlaid-later : (base : ℕ) (words : List ℕ) (a x : ℕ) (xs : List ℕ) → a < base
     → overlaid base words (a + 1) xs ≡ overlaid base words a (x ∷ xs)

@@ -1,5 +1,5 @@
 -- What the fields of `Areas` stand for.
-use Rattle.std.specs.Prelude.{ℕ, ◌+◌, ◌*◌, ◌^◌, ◌<◌, ◌≤◌, List, ◌∷◌, ◌++◌, length}
+use Rattle.std.specs.Prelude.{ℕ, ◌+◌, ◌*◌, ◌^◌, ◌<◌, ◌≤◌, ◌≡◌, List, ◌∷◌, ◌++◌, length, IfSome}
 use Rattle.heap_space.specs.declared.areas.Areas.TheInside.{Inside}
 use Rattle.heap_space.specs.Places.{Placed, RiseTo}
 use Rattle.heap_space.specs.Seats.{AreArenas}
@@ -18,12 +18,18 @@ memory_of s = record {
   next_large = s.next_large;
 }
 
+-- to divide by n is to shift by k bits
+pub record IsShift (n k : ℕ) : Type 0 where
+  pub below : k < 64
+  pub power : n ≡ 2 ^ k
+
 -- each area lies in its own part of the places
 pub record HasAreas (s : Inside) : Type 0 where
   pub nursery_some : 0 < length s.nursery
   pub nursery_ends : 1 + length s.nursery ≤ 4294967296
   pub arena_some : 0 < s.arena_words
   pub arena_most : s.arena_words ≤ 16777219
+  pub arena_shift : IfSome s.arena_shift (IsShift s.arena_words)
   pub arenas : AreArenas 4294967296 s.arena_words s.arenas.items
   pub arenas_end : 4294967296 + length s.arenas.items * s.arena_words ≤ 1099511627776
   pub larges : RiseTo 1099511627776 s.larges.items s.next_large

@@ -1,10 +1,11 @@
 //! The three areas of places: the nursery from place 1 on, the arenas side by side from 2^32 on,
 //! and the large blocks from 2^40 on, each where the one added before it ended. A large block that
 //! was given back stays in its list without words, until the list is compacted.
-ghost use Rattle.std.specs.Prelude.{◌≡◌, ℕ, ◌+◌, ◌*◌, ◌^◌, ◌<◌, ◌≤◌, List, [], ◌∷◌, ◌++◌, length, replicate, slice_index_or, nat_le, IfOk, IfErr, IsTrue};
+ghost use Rattle.std.specs.Prelude.{◌≡◌, ℕ, ◌+◌, ◌*◌, ◌/◌, ◌^◌, ◌<◌, ◌≤◌, List, [], ◌∷◌, ◌++◌, length, replicate, slice_index_or, nat_le, IfOk, IfErr, IfSome, IsTrue};
 ghost use Rattle.heap_space.specs.Places.{Placed, covers, has, word_at, with_word, is_base, lies_in_one, run_at, with_run};
 ghost use Rattle.heap_space.specs.Memory.{fresh_memory, with_arena, with_large};
 ghost use Rattle.heap_space.specs.Order.{IsInOrder};
+ghost use Rattle.heap_space.specs.Areas.{IsShift};
 ghost use Rattle.heap_space.specs.Seats.{IsSeat, AreLarges, PartsAt, has_words, with_emptied, seen};
 
 use crate::block::{Block, MOST_WORDS};
@@ -28,6 +29,8 @@ pub(crate) struct Areas {
     arenas: Vec<Located>,
     larges: Vec<Located>,
     arena_words: u64,
+    // By how many bits a number is shifted to be divided by `arena_words`, where that is a power of two.
+    arena_shift: Option<u32>,
     next_large: u64,
     alloc: Global,
 }
@@ -63,6 +66,7 @@ impl Areas {
             arenas: Vec::new(alloc),
             larges: Vec::new(alloc),
             arena_words,
+            arena_shift: shift_of(arena_words),
             next_large: FIRST_LARGE,
             alloc,
         })
@@ -136,6 +140,9 @@ impl Areas {
         requires { IsTrue (has self.now.blocks a) }
         ensures { result ≡ word_at self.now.blocks a }
     {
+        if a < FIRST_ARENA {
+            return self.nursery.read((a - 1) as usize);
+        }
         let seat = self.seat(a);
         self.word(seat)
     }
@@ -146,6 +153,10 @@ impl Areas {
         requires { IsTrue (has self.old.blocks a) }
         ensures { self.new ≡ record self.old { blocks = with_word self.old.blocks a v } }
     {
+        if a < FIRST_ARENA {
+            self.nursery.write((a - 1) as usize, v);
+            return;
+        }
         let seat = self.seat(a);
         self.set_word(seat, v);
     }
@@ -207,6 +218,10 @@ impl Areas {
         if n == 0 {
             return;
         }
+        if a < FIRST_ARENA {
+            self.nursery.fill_zero((a - 1) as usize, n as usize);
+            return;
+        }
         let first = self.run_seat(a, n);
         for k in 0..n {
             self.set_word(first.after(k), 0);
@@ -221,9 +236,20 @@ impl Areas {
         if a < FIRST_ARENA {
             1 <= a && a - 1 < self.nursery.len() as u64
         } else if a < FIRST_LARGE {
-            (a - FIRST_ARENA) / self.arena_words < self.arenas.len() as u64
+            self.arena_number(a - FIRST_ARENA) < self.arenas.len() as u64
         } else {
             has_large(&self.larges, a)
+        }
+    }
+
+    // In which arena the place so many words behind the first arena's lies, if it lies in one.
+    #[inline]
+    fn arena_number(&self, distance: u64) -> u64
+        ensures { result ≡ distance / self.now.arena_words }
+    {
+        match self.arena_shift {
+            Some(shift) => distance >> shift,
+            None => distance / self.arena_words,
         }
     }
 
@@ -251,9 +277,10 @@ impl Areas {
             }
         } else if a < FIRST_LARGE {
             let distance = a - FIRST_ARENA;
+            let number = self.arena_number(distance);
             Seat {
-                block: (distance / self.arena_words) as usize + 1,
-                offset: (distance % self.arena_words) as usize,
+                block: number as usize + 1,
+                offset: (distance - number * self.arena_words) as usize,
             }
         } else {
             let index = large_index(&self.larges, a);
@@ -310,6 +337,18 @@ impl Seat {
             offset: self.offset + k as usize,
         }
     }
+}
+
+// By how many bits a number is shifted to be divided by n, where n is a power of two.
+fn shift_of(n: u64) -> Option<u32>
+    ensures { IfSome result (IsShift n) }
+{
+    for shift in 0..63 {
+        if 1 << shift == n {
+            return Some(shift);
+        }
+    }
+    None
 }
 
 // How many of the large blocks begin at a or below.

@@ -88,6 +88,14 @@ impl TypeTable {
     pub fn get(&self, id: u16) -> Option<TypeInfo>
         ensures { result ≡ value_at self.now id }
     {
+        // The place of the entry where the ids go from 1 on without a gap, as they mostly do.
+        let likely = usize::from(id).saturating_sub(1);
+        if likely < self.entries.len() {
+            let entry = self.entries[likely];
+            if entry.0 == id {
+                return Some(entry.1);
+            }
+        }
         match place_of(&self.entries, id) {
             Ok(at) => Some(self.entries[at].1),
             Err(_) => None,

@@ -1,10 +1,12 @@
-use Rattle.std.proofs.Common.{◌≡◌, ◌∙◌, ℕ, ◌+◌, ◌<◌, List, replicate, ap, sym, subst}
+use Rattle.std.proofs.Common.{◌≡◌, ◌∙◌, ℕ, ◌+◌, ◌<◌, List, replicate, ap, sym, subst, arith}
+use lib.ListN.{length-replicate}
 use Rattle.heap_space.specs.Memory.{Memory}
 use Rattle.heap_space.specs.Places.{Placed, with_word, with_run}
 use Rattle.heap_space.specs.Seats.{IsSeat}
 use Rattle.heap_space.specs.declared.areas.Seat.{Seat}
 use Rattle.heap_space.proofs.Blocks.{with_run-fill, with_run-filled, with_run-nil}
 use Rattle.heap_space.proofs.Seats.{seat-with_word}
+use Rattle.heap_space.proofs.Fields.{run-in-nursery, nursery-areas, nursery-run}
 use Rattle.heap_space.proofs.areas.Areas.fill_zero.Invariants.{FillsWords}
 use Rattle.heap_space.proofs.areas.Areas.fill_zero.Goals as goal
 
@@ -30,6 +32,22 @@ returns-then-n-eq0 c =
     let old = c.args.self.now in
     let none = ap (λ (n : ℕ). with_run old.blocks c.args.a (replicate n 0)) c.if-n-eq0.true ∙ with_run-nil old.blocks c.args.a in
     ap (λ (ps : List Placed). record old { blocks = ps }) (sym none)
+
+pub overflow_sub-a : goal.overflow_sub-a
+overflow_sub-a c =
+    (run-in-nursery c.self.inside c.self.invariant _ c.self.view_is _ c.args.n (omega (arith, c.if-n-eq0.false)) c.requires c.if-a-lt-FIRST_ARENA.true).0
+
+pub fill_zero-requires : goal.fill_zero-requires
+fill_zero-requires c =
+    (run-in-nursery c.self.inside c.self.invariant _ c.self.view_is _ c.args.n (omega (arith, c.if-n-eq0.false)) c.requires c.if-a-lt-FIRST_ARENA.true).1
+
+pub invariant_of-self : goal.invariant_of-self
+invariant_of-self c = nursery-areas c.self.inside c.self.invariant _ _ _ c.fill_zero.ensures
+
+pub returns-then-a-lt-FIRST_ARENA : goal.returns-then-a-lt-FIRST_ARENA
+returns-then-a-lt-FIRST_ARENA c =
+    nursery-run c.self.inside c.self.invariant _ c.self.view_is _ c.args.n (omega (arith, c.if-n-eq0.false)) c.requires c.if-a-lt-FIRST_ARENA.true _ _
+    (length-replicate c.args.n 0) c.fill_zero.ensures
 
 pub set_word-requires : goal.set_word-requires
 set_word-requires c = (c.args.a + c.loop-k.k, seat_at _ _ _ _ _ _ _ c.loop-k.invariant c.loop-k-test.true c.after.ensures)

@@ -1,6 +1,7 @@
-use Rattle.std.proofs.Common.{◌∙◌, ◌≡◌, ◌-◌, List, ap, arith}
+use Rattle.std.proofs.Common.{◌∙◌, ◌≡◌, ℕ, ◌-◌, ◌/◌, List, ap, sym, arith}
 use Rattle.std.proofs.lemmas.Bool.Decides.{nat_tests}
 use Rattle.std.specs.Prelude.{nat_lt, nat_le}
+use Rattle.heap_space.specs.Memory.{Memory}
 use Rattle.heap_space.specs.Places.{Placed, has, covers}
 use Rattle.heap_space.specs.Areas.{nursery_block}
 use Rattle.heap_space.proofs.Fields.{has-in-nursery, has-in-arena, has-in-large}
@@ -19,7 +20,9 @@ returns-else-a-ge1 c =
 
 pub returns-then-a-lt-FIRST_LARGE : goal.returns-then-a-lt-FIRST_LARGE
 returns-then-a-lt-FIRST_LARGE c =
-    has-in-arena c.self.inside c.self.invariant _ c.self.view_is _ c.if-a-lt-FIRST_ARENA.false c.if-a-lt-FIRST_LARGE.true _
+    let number = c.arena_number.ensures ∙ ap (λ (m : Memory). (c.args.a - 4294967296) / m.arena_words) (sym c.self.view_is) in
+    ap (λ (k : ℕ). nat_lt k c.len-then-a-lt-FIRST_LARGE.result) number
+    ∙ has-in-arena c.self.inside c.self.invariant _ c.self.view_is _ c.if-a-lt-FIRST_ARENA.false c.if-a-lt-FIRST_LARGE.true _
     (c.len-then-a-lt-FIRST_LARGE.ensures ∙ c.self.inside.arenas.ok.0)
 
 pub returns-else-a-lt-FIRST_LARGE : goal.returns-else-a-lt-FIRST_LARGE
