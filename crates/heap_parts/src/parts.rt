@@ -4,7 +4,7 @@ ghost use Rattle.type_table.specs.Table.{value_at};
 ghost use Rattle.object_model.specs.SettingRanges.{AreInRange};
 ghost use Rattle.parts_model.specs.Parts.{AreFresh};
 
-use crate::empty_parts::{lists, slots_and_pins, tables, words};
+use crate::empty_parts::begin;
 use crate::pins::Pins;
 use finalizer_order::Finals;
 use heap_space::Space;
@@ -108,10 +108,11 @@ impl Parts {
         requires { AreInRange settings.now }
         ensures { IfOk result (λ parts. AreFresh parts settings.now types) }
     {
-        let (space, nursery, old_blocks) = words(alloc, settings)?;
-        let (remember, weaks, finals) = lists(alloc, settings)?;
-        let (shadows, links, gray) = tables(alloc)?;
-        let (slots, pins) = slots_and_pins(alloc, settings)?;
+        let made = begin(alloc, settings)?;
+        let (space, nursery, old_blocks) = made.words;
+        let (remember, weaks, finals) = made.lists;
+        let (shadows, links, gray) = made.tables;
+        let (slots, pins) = made.slots;
         Ok(Parts {
             settings: *settings,
             types,
