@@ -1,10 +1,9 @@
 -- Pages that wait for a sweep.
-use Rattle.std.proofs.Common.{◌≡◌, ◌≢◌, ℕ, ◌+◌, inl, inr, List, [], ◌∷◌, IsTrue, nat_eq, arith, sym, ap, subst}
-use Rattle.std.proofs.lemmas.Bool.Decides.{nat_tests}
+use Rattle.std.proofs.Common.{◌≡◌, ◌≢◌, ℕ, ◌+◌, inl, inr, List, [], ◌∷◌, arith, sym, ap, subst}
 use Rattle.std.specs.Prelude.{◌↔◌}
 use Rattle.heap_space.specs.Memory.{Memory}
 use Rattle.heap_space.specs.Extents.{Extent}
-use Rattle.size_pages.specs.PageWords.{word_in, CanStore}
+use Rattle.size_pages.specs.PageWords.{word_in}
 use Rattle.size_pages.specs.LiveBlocks.{page_at}
 use Rattle.size_pages.specs.Kinds.{HasKind}
 use Rattle.size_pages.specs.PageLists.{EachPlace, IsIn, IsPage, IsListedRightly, list_number, list_of}

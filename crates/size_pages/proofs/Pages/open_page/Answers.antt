@@ -1,4 +1,4 @@
-use Rattle.std.proofs.Common.{◌≡◌, ◌≤◌, ◌∙◌, ℕ, sym, slice_index, arith, subst}
+use Rattle.std.proofs.Common.{◌≡◌, ◌≤◌, ℕ, slice_index, arith, subst}
 use Rattle.size_pages.proofs.TakeLaws.{first_with_room, can_take}
 use Rattle.size_pages.proofs.ListedLaws.{can_take_open}
 use Rattle.size_pages.proofs.Pages.open_page.Goals as goal

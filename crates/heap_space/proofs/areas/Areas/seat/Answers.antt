@@ -2,7 +2,6 @@ use Rattle.std.proofs.Common.{◌≡◌, ◌∙◌, ℕ, ◌+◌, ◌-◌, ◌*�
 use Rattle.std.proofs.Math.Nat.{div-add-mod}
 use Rattle.heap_space.specs.Memory.{Memory}
 use Rattle.heap_space.specs.Places.{Placed}
-use Rattle.heap_space.specs.Areas.{memory_of}
 use Rattle.heap_space.specs.Seats.{IsSeat}
 use Rattle.heap_space.proofs.Fields.{at-nursery, at-arena, at-larges, at-large}
 use Rattle.heap_space.proofs.areas.Areas.seat.Goals as goal

@@ -1,4 +1,4 @@
-use Rattle.std.proofs.Common.{◌∙◌, refl}
+use Rattle.std.proofs.Common.{refl}
 use Rattle.heap_space.proofs.Fields.{at-nursery, word-nursery, set-nursery}
 use Rattle.heap_space.proofs.areas.Areas.write.Goals as goal
 
