@@ -33,7 +33,7 @@ impl Heap {
         }
     }
 
-    /// The same where the object was looked at before: `found` is what `found` answers for the slot.
+    /// As `put`, with no further look at the object: `found` is what the call `found` answers for the slot now.
     pub fn put_found(
         &mut self,
         root: u32,
@@ -72,7 +72,7 @@ impl Heap {
         }
     }
 
-    /// The same where the object was looked at before: `found` is what `found` answers for the slot.
+    /// As `get`, with no further look at the object: `found` is what the call `found` answers for the slot now.
     pub fn get_found(&self, root: u32, found: Option<Found>, i: u64) -> Result<u64, HeapFault>
         requires can { CanDo self.now (Get root i) }
         requires found { found ≡ found_in self.now root }
@@ -104,7 +104,8 @@ impl Heap {
         }
     }
 
-    /// The same where the object that is written was looked at before: `found` is what `found` answers for its slot.
+    /// As `link`, with no further look at the object that is written: `found` is what the call `found` answers for its slot now.
+    /// After an error nothing is changed.
     pub fn link_found(
         &mut self,
         root: u32,

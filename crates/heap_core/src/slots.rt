@@ -29,7 +29,7 @@ impl Heap {
         }
     }
 
-    /// The same where the object was looked at before: `found` is what `found` answers for its slot.
+    /// As `load`, with no further look at the object: `found` is what the call `found` answers for its slot now.
     pub fn load_found(
         &mut self,
         to: u32,
@@ -97,13 +97,7 @@ impl Heap {
 }
 
 /// Puts a reference of the object in a slot, which was found before, into a slot, and answers the birth that it leads to.
-fn load_ref(
-    parts: &mut Parts,
-    to: u32,
-    root: u32,
-    found: Option<Found>,
-    i: u64,
-) -> Option<u64>
+fn load_ref(parts: &mut Parts, to: u32, root: u32, found: Option<Found>, i: u64) -> Option<u64>
     requires ready { AreReady parts.old (Load to root i) }
     requires found { found ≡ found_of parts.old root }
     ensures { PartsDo parts.old parts.new (Load to root i) (Loaded result ∷ []) }

@@ -70,12 +70,7 @@ impl Session {
     }
 
     /// The first reason for which a command is refused, if it is.
-    fn command_refusal(
-        &self,
-        heap: &Heap,
-        command: &Command,
-        kind: Option<Kind>,
-    ) -> Option<Reason>
+    fn command_refusal(&self, heap: &Heap, command: &Command, kind: Option<Kind>) -> Option<Reason>
         requires placed { IsPlaced self.now heap.now }
         requires kind { kind ≡ kind_for (seen_if self.now.types heap.now) command.now }
         ensures { result ≡ first_reason (command_checks (setup_of self.now heap.now) (seen_if self.now.types heap.now) command.now) }
@@ -87,12 +82,7 @@ impl Session {
     }
 
     /// The same for a command none of whose numbers is out of range.
-    fn refusal_in_range(
-        &self,
-        heap: &Heap,
-        command: &Command,
-        kind: Option<Kind>,
-    ) -> Option<Reason>
+    fn refusal_in_range(&self, heap: &Heap, command: &Command, kind: Option<Kind>) -> Option<Reason>
         requires placed { IsPlaced self.now heap.now }
         requires kind { kind ≡ kind_for (seen_if self.now.types heap.now) command.now }
         requires in_range { is_above command.now ≡ false }

@@ -50,11 +50,11 @@ pub write_ref-requires-clause-item : goal.write_ref-requires-clause-item
 write_ref-requires-clause-item c =
     (link_sees c.args.parts.now c.args.root c.args.i c.args.from c.args.found c.in-Some.seen c.requires.ready c.requires.found c.in-Some.is).1
 
-pub returns-then-seen-place-lt-FIRST_OLD-clause-does : goal.returns-then-seen-place-lt-FIRST_OLD-clause-does
-returns-then-seen-place-lt-FIRST_OLD-clause-does c =
+pub returns-then-seen-lt-FIRST_OLD-clause-does : goal.returns-then-seen-lt-FIRST_OLD-clause-does
+returns-then-seen-lt-FIRST_OLD-clause-does c =
     young-written c.args.parts.now c.write_ref.new.parts c.args.root c.args.i c.args.from c.place-to.result c.in-Some.seen c.requires.ready
     (link_sees c.args.parts.now c.args.root c.args.i c.args.from c.args.found c.in-Some.seen c.requires.ready c.requires.found c.in-Some.is).0
-    c.if-seen-place-lt-FIRST_OLD.true c.place-to.ensures c.write_ref.ensures
+    c.if-seen-lt-FIRST_OLD.true c.place-to.ensures c.write_ref.ensures
 
 pub remember_items-requires : goal.remember_items-requires
 remember_items-requires c =
@@ -62,7 +62,7 @@ remember_items-requires c =
     let s = (link_sees now c.args.root c.args.i c.args.from c.args.found c.in-Some.seen c.requires.ready c.requires.found c.in-Some.is).0 in
     subst (λ (p : ℕ). CanRemember now p c.args.i 1) (sym (at-root now c.args.root c.in-Some.seen s))
     (link_can now c.args.root c.args.i c.args.from c.requires.ready
-    (old-at c.in-Some.seen.place (place_in now c.args.root) (at-root now c.args.root c.in-Some.seen s) c.if-seen-place-lt-FIRST_OLD.false)
+    (old-at c.in-Some.seen.place (place_in now c.args.root) (at-root now c.args.root c.in-Some.seen s) c.if-seen-lt-FIRST_OLD.false)
     (link_few now c.args.root c.args.i c.args.from c.requires.ready))
 
 pub write_ref-requires-2-clause-seen : goal.write_ref-requires-2-clause-seen
@@ -70,7 +70,7 @@ write_ref-requires-2-clause-seen c =
     let now : HeapParts = c.args.parts.now in
     let s = (link_sees now c.args.root c.args.i c.args.from c.args.found c.in-Some.seen c.requires.ready c.requires.found c.in-Some.is).0 in
     found_after now c.remember_items.new.self c.args.root c.args.i c.args.from c.in-Some.seen c.requires.ready s
-    (old-at c.in-Some.seen.place (place_in now c.args.root) (at-root now c.args.root c.in-Some.seen s) c.if-seen-place-lt-FIRST_OLD.false)
+    (old-at c.in-Some.seen.place (place_in now c.args.root) (at-root now c.args.root c.in-Some.seen s) c.if-seen-lt-FIRST_OLD.false)
     (remembered now c.remember_items.new.self c.args.root c.args.i c.in-Some.seen s c.in_ok-remember_items.ensures.remembers)
 
 pub write_ref-requires-2-clause-item : goal.write_ref-requires-2-clause-item
@@ -81,4 +81,4 @@ pub returns-clause-does : goal.returns-clause-does
 returns-clause-does c =
     old-written c.args.parts.now c.remember_items.new.self c.write_ref-2.new.parts c.args.root c.args.i c.args.from c.place-to.result c.in-Some.seen c.requires.ready
     (link_sees c.args.parts.now c.args.root c.args.i c.args.from c.args.found c.in-Some.seen c.requires.ready c.requires.found c.in-Some.is).0
-    c.if-seen-place-lt-FIRST_OLD.false c.in_ok-remember_items.ensures.remembers c.place-to.ensures c.write_ref-2.ensures
+    c.if-seen-lt-FIRST_OLD.false c.in_ok-remember_items.ensures.remembers c.place-to.ensures c.write_ref-2.ensures
