@@ -12,11 +12,11 @@ use Rattle.heap_core.specs.Heap.{HeapSeen}
 
 -- something of the slot whose object's items a command works on, if it is such a command
 abbrev pub of_fields : {T : Type 0} → (ℕ → Option T) → Command → Option T
-of_fields of (Put root item value) = of root
-of_fields of (Get root item) = of root
-of_fields of (Link root item from) = of root
-of_fields of (Load to root item) = of root
-of_fields of command = None
+of_fields tell (Put root item value) = tell root
+of_fields tell (Get root item) = tell root
+of_fields tell (Link root item from) = tell root
+of_fields tell (Load to root item) = tell root
+of_fields tell command = None
 
 -- what is seen of the object whose items a command works on
 abbrev pub found_for : HeapSeen → Command → Option Found

@@ -2,7 +2,7 @@
 ghost use Rattle.std.specs.Prelude.{◌≡◌, option_map};
 ghost use Rattle.object_model.specs.Setup.{type_at};
 ghost use Rattle.heap_core.specs.Found.{kind_of, found_in};
-ghost use Rattle.session_core.specs.Finding.{found_by, kind_by};
+ghost use Rattle.session_core.specs.Finding.{found_for, found_by, kind_for, kind_by};
 ghost use Rattle.session_core.specs.Standing.{IsPlaced, setup_of, seen_if};
 
 use crate::session::Session;
@@ -28,10 +28,22 @@ impl Session {
         ensures kind { option_map kind_of result ≡ kind_by (seen_if self.now.types heap.now) item.now }
     {
         match *item {
-            Item::Command(Command::Put { root, .. }) => self.found_in(heap, root),
-            Item::Command(Command::Get { root, .. }) => self.found_in(heap, root),
-            Item::Command(Command::Link { root, .. }) => self.found_in(heap, root),
-            Item::Command(Command::Load { root, .. }) => self.found_in(heap, root),
+            Item::Command(command) => self.found_for(heap, &command),
+            _ => None,
+        }
+    }
+
+    /// The same of a command.
+    fn found_for(&self, heap: &Heap, command: &Command) -> Option<Found>
+        requires { IsPlaced self.now heap.now }
+        ensures value { result ≡ found_for heap.now command.now }
+        ensures kind { option_map kind_of result ≡ kind_for (seen_if self.now.types heap.now) command.now }
+    {
+        match *command {
+            Command::Put { root, .. } => self.found_in(heap, root),
+            Command::Get { root, .. } => self.found_in(heap, root),
+            Command::Link { root, .. } => self.found_in(heap, root),
+            Command::Load { root, .. } => self.found_in(heap, root),
             _ => None,
         }
     }
