@@ -169,7 +169,16 @@ link_can heap root item from ready high few =
     let has = link_ready heap root item from ready in let s = ready.standing.stands in
     can_remember s (place_in heap root) item 1 (old_in_slot heap ready.standing.store root s has.full high) (omega (arith, few))
 
--- and after the object was remembered
+-- the parts of the object lie where they lay after it was remembered
+pub link_layout_after : (heap new : HeapParts) (root item from : ℕ) → AreReady heap (Link root item from) → 4294967296 ≤ place_in heap root
+    → RemembersItems heap new (place_in heap root) item 1 → layout_in new root ≡ layout_in heap root
+link_layout_after heap new root item from ready high r =
+    let s = ready.standing.stands in let p : ℕ = place_in heap root in
+    let t = old_in_slot heap ready.standing.store root s (link_ready heap root item from ready).full high in
+    let same_root : place_in new root ≡ p = ap (λ (h : HeapParts). place_in h root) r.only in
+    ap (λ (q : ℕ). layout_at new.setup.types (word_in new) q) same_root ∙ layout_remembered s p item 1 t r p (old-is_in s.places p t).0
+
+-- and it can be written
 pub link_ready_after : (heap new : HeapParts) (root item from : ℕ) → AreReady heap (Link root item from) → 4294967296 ≤ place_in heap root
     → RemembersItems heap new (place_in heap root) item 1 → HasRef new root item
 link_ready_after heap new root item from ready high r =

@@ -7,6 +7,7 @@ pub mod StructCalls
 pub mod FinalizerReady
 pub mod FinalizerCalls
 pub mod BarrierCalls
+pub mod FoundCalls
 pub mod CopyReady
 pub mod CopyCalls
 pub mod TellerLaws

@@ -1,5 +1,6 @@
 pub mod Heap
 pub mod Commands
+pub mod Found
 pub mod StructLines
 pub mod Seen
 pub mod Bearing

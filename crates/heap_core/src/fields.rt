@@ -4,8 +4,10 @@ ghost use Rattle.text_model.specs.declared.command.Command.TheVariants.{Put, Get
 ghost use Rattle.text_model.specs.declared.line.Line.TheVariants.{Got};
 ghost use Rattle.heap_core.specs.declared.fault.HeapFault.TheVariants.{Spent};
 ghost use Rattle.heap_core.specs.Commands.{AreReady, CanDo, PartsDo, Performs, done_unless, fault_of};
+ghost use Rattle.heap_core.specs.Found.{found_of, found_in};
 
 use crate::fault::HeapFault;
+use crate::found::{Found, find, read_int, write_int, write_ref};
 use crate::heap::{Heap, State};
 use heap_parts::Parts;
 use std::alloc::AllocError;
@@ -23,7 +25,31 @@ impl Heap {
     {
         match &mut self.state {
             State::Started(parts) => {
-                put_int(parts, root, i, v);
+                let found = find(parts, root);
+                put_int(parts, root, found, i, v);
+                Ok(())
+            }
+            State::Closed | State::Spent => Err(HeapFault::Spent),
+        }
+    }
+
+    /// As `put`, with no further look at the object: `found` is what the call `found` answers for the slot now.
+    pub fn put_found(
+        &mut self,
+        root: u32,
+        found: Option<Found>,
+        i: u64,
+        v: u64,
+    ) -> Result<(), HeapFault>
+        requires can { CanDo self.old (Put root i v) }
+        requires found { found ≡ found_in self.old root }
+        ensures performs { Performs self.old self.new (Put root i v) [] [] }
+        ensures done { result ≡ done_unless self.old.is_spent }
+        ensures spent { IsTrue self.old.is_spent → self.new ≡ self.old }
+    {
+        match &mut self.state {
+            State::Started(parts) => {
+                put_int(parts, root, found, i, v);
                 Ok(())
             }
             State::Closed | State::Spent => Err(HeapFault::Spent),
@@ -38,7 +64,24 @@ impl Heap {
         ensures cause { OnErr result (IsTrue self.now.is_spent) }
     {
         match &self.state {
-            State::Started(parts) => Ok(get_int(parts, root, i)),
+            State::Started(parts) => {
+                let found = find(parts, root);
+                Ok(get_int(parts, root, found, i))
+            }
+            State::Closed | State::Spent => Err(HeapFault::Spent),
+        }
+    }
+
+    /// As `get`, with no further look at the object: `found` is what the call `found` answers for the slot now.
+    pub fn get_found(&self, root: u32, found: Option<Found>, i: u64) -> Result<u64, HeapFault>
+        requires can { CanDo self.now (Get root i) }
+        requires found { found ≡ found_in self.now root }
+        ensures performs { IfOk result (λ v. Performs self.now self.now (Get root i) [] (Got v ∷ [])) }
+        ensures spent { IsTrue self.now.is_spent → result ≡ Err Spent }
+        ensures cause { OnErr result (IsTrue self.now.is_spent) }
+    {
+        match &self.state {
+            State::Started(parts) => Ok(get_int(parts, root, found, i)),
             State::Closed | State::Spent => Err(HeapFault::Spent),
         }
     }
@@ -53,7 +96,32 @@ impl Heap {
         ensures spent { IsTrue self.old.is_spent → result ≡ Err Spent }
     {
         match &mut self.state {
-            State::Started(parts) => Ok(link_ref(parts, root, i, from)?),
+            State::Started(parts) => {
+                let found = find(parts, root);
+                Ok(link_ref(parts, root, found, i, from)?)
+            }
+            State::Closed | State::Spent => Err(HeapFault::Spent),
+        }
+    }
+
+    /// As `link`, with no further look at the object that is written: `found` is what the call `found` answers for its slot now.
+    /// After an error nothing is changed.
+    pub fn link_found(
+        &mut self,
+        root: u32,
+        found: Option<Found>,
+        i: u64,
+        from: u32,
+    ) -> Result<(), HeapFault>
+        requires can { CanDo self.old (Link root i from) }
+        requires found { found ≡ found_in self.old root }
+        ensures performs { OnOk result (Performs self.old self.new (Link root i from) [] []) }
+        ensures err { OnErr result (self.new ≡ self.old) }
+        ensures cause { IfErr result (λ fault. fault ≡ fault_of self.old.is_spent) }
+        ensures spent { IsTrue self.old.is_spent → result ≡ Err Spent }
+    {
+        match &mut self.state {
+            State::Started(parts) => Ok(link_ref(parts, root, found, i, from)?),
             State::Closed | State::Spent => Err(HeapFault::Spent),
         }
     }
@@ -83,37 +151,54 @@ impl Heap {
     }
 }
 
-/// Puts a whole number into an item of the object in a slot.
-fn put_int(parts: &mut Parts, root: u32, i: u64, v: u64)
-    requires { AreReady parts.old (Put root i v) }
+/// Puts a whole number into an item of the object in a slot, which was found before.
+fn put_int(parts: &mut Parts, root: u32, found: Option<Found>, i: u64, v: u64)
+    requires ready { AreReady parts.old (Put root i v) }
+    requires found { found ≡ found_of parts.old root }
     ensures { PartsDo parts.old parts.new (Put root i v) [] }
 {
-    parts.put(root, i, v);
+    let Some(seen) = found else {
+        unreachable!();
+    };
+    write_int(parts, seen, i, v);
 }
 
-/// A whole number of the object in a slot.
-fn get_int(parts: &Parts, root: u32, i: u64) -> u64
-    requires { AreReady parts.now (Get root i) }
+/// A whole number of the object in a slot, which was found before.
+fn get_int(parts: &Parts, root: u32, found: Option<Found>, i: u64) -> u64
+    requires ready { AreReady parts.now (Get root i) }
+    requires found { found ≡ found_of parts.now root }
     ensures { PartsDo parts.now parts.now (Get root i) (Got result ∷ []) }
 {
-    parts.get(root, i)
+    let Some(seen) = found else {
+        unreachable!();
+    };
+    read_int(parts, seen, i)
 }
 
-/// Puts what a slot holds, or nil, into an item of the object in another slot. The write barrier comes first: a place in
-/// the nursery costs it one test.
-fn link_ref(parts: &mut Parts, root: u32, i: u64, from: u32) -> Result<(), AllocError>
-    requires { AreReady parts.old (Link root i from) }
+/// Puts what a slot holds, or nil, into an item of the object in another slot, which was found before. The write barrier comes
+/// first: a place in the nursery costs it one test.
+fn link_ref(
+    parts: &mut Parts,
+    root: u32,
+    found: Option<Found>,
+    i: u64,
+    from: u32,
+) -> Result<(), AllocError>
+    requires ready { AreReady parts.old (Link root i from) }
+    requires found { found ≡ found_of parts.old root }
     ensures does { OnOk result (PartsDo parts.old parts.new (Link root i from) []) }
     ensures err { OnErr result (parts.new ≡ parts.old) }
 {
-    let place = parts.place(root);
+    let Some(seen) = found else {
+        unreachable!();
+    };
     let to = parts.place(from);
-    if place < FIRST_OLD {
-        parts.link(root, i, to);
+    if seen.place < FIRST_OLD {
+        write_ref(parts, seen, i, to);
         return Ok(());
     }
-    parts.remember_items(place, i, 1)?;
-    parts.link(root, i, to);
+    parts.remember_items(seen.place, i, 1)?;
+    write_ref(parts, seen, i, to);
     Ok(())
 }
 

@@ -7,6 +7,7 @@ mod collections;
 mod fault;
 mod fields;
 mod finalizers;
+mod found;
 mod heap;
 mod identity;
 mod pinning;
@@ -19,5 +20,6 @@ mod usage;
 mod weak;
 
 pub use fault::HeapFault;
+pub use found::{Found, kind_found};
 pub use heap::Heap;
 pub use rawref_links::Dec;

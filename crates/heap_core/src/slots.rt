@@ -4,8 +4,10 @@ ghost use Rattle.text_model.specs.declared.command.Command.TheVariants.{Load, Mo
 ghost use Rattle.text_model.specs.declared.line.Line.TheVariants.{Loaded, SameAs};
 ghost use Rattle.heap_core.specs.declared.fault.HeapFault.TheVariants.{Spent};
 ghost use Rattle.heap_core.specs.Commands.{AreReady, CanDo, PartsDo, Performs, done_unless};
+ghost use Rattle.heap_core.specs.Found.{found_of, found_in};
 
 use crate::fault::HeapFault;
+use crate::found::{Found, find, read_ref};
 use crate::heap::{Heap, State};
 use heap_parts::Parts;
 
@@ -19,7 +21,31 @@ impl Heap {
         ensures err { OnErr result (self.new ≡ self.old) }
     {
         match &mut self.state {
-            State::Started(parts) => Ok(load_ref(parts, to, root, i)),
+            State::Started(parts) => {
+                let found = find(parts, root);
+                Ok(load_ref(parts, to, root, found, i))
+            }
+            State::Closed | State::Spent => Err(HeapFault::Spent),
+        }
+    }
+
+    /// As `load`, with no further look at the object: `found` is what the call `found` answers for its slot now.
+    pub fn load_found(
+        &mut self,
+        to: u32,
+        root: u32,
+        found: Option<Found>,
+        i: u64,
+    ) -> Result<Option<u64>, HeapFault>
+        requires can { CanDo self.old (Load to root i) }
+        requires found { found ≡ found_in self.old root }
+        ensures performs { IfOk result (λ birth. Performs self.old self.new (Load to root i) [] (Loaded birth ∷ [])) }
+        ensures spent { IsTrue self.old.is_spent → result ≡ Err Spent }
+        ensures cause { OnErr result (IsTrue self.old.is_spent) }
+        ensures err { OnErr result (self.new ≡ self.old) }
+    {
+        match &mut self.state {
+            State::Started(parts) => Ok(load_ref(parts, to, root, found, i)),
             State::Closed | State::Spent => Err(HeapFault::Spent),
         }
     }
@@ -70,12 +96,16 @@ impl Heap {
     }
 }
 
-/// Puts a reference of the object in a slot into a slot, and answers the birth that it leads to.
-fn load_ref(parts: &mut Parts, to: u32, root: u32, i: u64) -> Option<u64>
-    requires { AreReady parts.old (Load to root i) }
+/// Puts a reference of the object in a slot, which was found before, into a slot, and answers the birth that it leads to.
+fn load_ref(parts: &mut Parts, to: u32, root: u32, found: Option<Found>, i: u64) -> Option<u64>
+    requires ready { AreReady parts.old (Load to root i) }
+    requires found { found ≡ found_of parts.old root }
     ensures { PartsDo parts.old parts.new (Load to root i) (Loaded result ∷ []) }
 {
-    let place = parts.reference(root, i);
+    let Some(seen) = found else {
+        unreachable!();
+    };
+    let place = read_ref(parts, seen, i);
     let birth = parts.birth_of(place);
     parts.set_slot(to, place);
     birth

@@ -1,12 +1,14 @@
 //! What a heap tells, by which a caller knows beforehand what it refuses.
-ghost use Rattle.std.specs.Prelude.{◌≡◌, IsSome, IsSomeAnd, is_some};
+ghost use Rattle.std.specs.Prelude.{◌≡◌, IsSome, IsSomeAnd, is_some, option_map};
 ghost use Rattle.store_model.specs.Store.{Store};
 ghost use Rattle.store_model.specs.Slots.{object_in};
 ghost use Rattle.store_model.specs.Look.{look};
 ghost use Rattle.heap_parts.specs.Told.{items_of};
 ghost use Rattle.heap_core.specs.Heap.{StandsFor};
 ghost use Rattle.heap_core.specs.Commands.{IsStanding, type_found, told_by};
+ghost use Rattle.heap_core.specs.Found.{kind_of, found_in};
 
+use crate::found::{Found, find};
 use crate::heap::{Heap, State};
 use object_model::{Kind, StructState};
 use type_table::{Shape, TypeInfo};
@@ -18,6 +20,19 @@ impl Heap {
     {
         match &self.state {
             State::Started(parts) => parts.type_info(id),
+            State::Closed | State::Spent => None,
+        }
+    }
+
+    /// What is seen of the object in a slot, None where the slot is empty or not there. `put_found` and the like take it, so that
+    /// one look serves to know what is refused, and to do what is not.
+    pub fn found(&self, root: u32) -> Option<Found>
+        requires { IsStanding self.now }
+        ensures value { result ≡ found_in self.now root }
+        ensures kind { option_map kind_of result ≡ (told_by self.now).kind root }
+    {
+        match &self.state {
+            State::Started(parts) => find(parts, root),
             State::Closed | State::Spent => None,
         }
     }

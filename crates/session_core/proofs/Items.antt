@@ -19,14 +19,17 @@ use Rattle.store_model.specs.Checks.{first_reason}
 use Rattle.store_model.specs.Look.{Look}
 use Rattle.store_model.specs.Refusal.{refusal_seen, command_checks}
 use Rattle.store_model.specs.Transcript.{ItemDoes}
-use Rattle.heap_parts.specs.Parts.{HeapParts}
+use Rattle.heap_parts.specs.Parts.{HeapParts, word_in, place_in}
 use Rattle.heap_parts.specs.Told.{told}
-use Rattle.heap_core.specs.Heap.{HeapSeen, heap_of, StandsFor}
-use Rattle.heap_core.specs.Commands.{OfParts, AreReady, CanDo, IsFresh, Performs, Keeps, setup_in, told_by}
+use Rattle.heap_core.specs.Heap.{HeapSeen, heap_of, closed_heap, StandsFor}
+use Rattle.heap_core.specs.Commands.{OfParts, AreReady, CanDo, IsFresh, Performs, Keeps, setup_in, told_by, nothing_told}
+use Rattle.heap_core.specs.Found.{found_in}
 use Rattle.heap_core.proofs.LookLaws.{look_told}
+use Rattle.heap_core.proofs.FoundCalls.{found-none}
 use Rattle.session_core.specs.declared.session.RunFault.{RunFault}
 use Rattle.session_core.specs.declared.session.RunFault.TheVariants.{OutOfMemory}
 use Rattle.session_core.specs.Blocks.{NoBlock, LeavesStore, LeavesOff, makes_blocks}
+use Rattle.session_core.specs.Finding.{of_fields, found_for}
 use Rattle.session_core.specs.Seen.{SessionSeen}
 use Rattle.session_core.specs.Standing.{IsStarted, HasHeap, HasStore, StandsAt, IsPlaced, DoesItem, KeepsFront, Answers, Sets, Adds, Begins, types_in, table_of, seen_if, setup_of, refusal_of}
 use Rattle.session_core.proofs.Passing.{passed}
@@ -145,16 +148,30 @@ begins_again session new heap is same placed = record {
   has_heap = heap_started session heap is placed;
   table = ap (λ (t : Option (Table TypeInfo)). types_in t heap) (sym is);
   told = ap (λ (t : Option (Table TypeInfo)). seen_if t heap) (sym is);
+  founds = λ root. refl;
   stores = λ store stands. subst (λ (t : Option (Table TypeInfo)). HasStore t session.settings heap store) is stands;
 }
 
+-- while the session has the types, nothing is found in the heap
+pub nothing_found : (session : SessionSeen) (heap : HeapSeen) (types : Table TypeInfo) (root : ℕ) → session.types ≡ Some types → IsPlaced session heap
+    → found_in heap root ≡ None
+nothing_found session heap types root is placed =
+    let closed : heap ≡ closed_heap = subst (λ (t : Option (Table TypeInfo)). HasHeap t session.settings heap) is placed.stands.has_heap in
+    ap (λ (h : HeapSeen). found_in h root) closed
+
+-- nor in a heap of which nothing is told
+found_untold : (parts : HeapParts) (root : ℕ) → told parts ≡ nothing_told → found_in (heap_of parts) root ≡ None
+found_untold parts root told_is = found-none parts.setup.types (word_in parts) (place_in parts root) (ap (λ (l : Look). l.kind root) told_is)
+
 -- the heap is started
 pub begins_first : (session new : SessionSeen) (heap started : HeapSeen) (types : Table TypeInfo) → session.types ≡ Some types
-    → new.types ≡ None → new.settings ≡ session.settings → new.names ≡ session.names
+    → new.types ≡ None → new.settings ≡ session.settings → new.names ≡ session.names → IsPlaced session heap
     → IsFresh started session.settings types → StandsFor started (empty_store session.settings) → Begins session new heap started
-begins_first session new heap started types is none settings names fresh empty =
+begins_first session new heap started types is none settings names placed fresh empty =
     let stands : StandsFor (heap_of fresh.parts) (empty_store session.settings) =
     subst (λ (h : HeapSeen). StandsFor h (empty_store session.settings)) fresh.is empty in
+    let untold : told fresh.parts ≡ nothing_told =
+    sym (look_told fresh.parts (empty_store session.settings) stands) ∙ look-empty session.settings in
     record {
       types = none;
       settings = settings;
@@ -162,10 +179,16 @@ begins_first session new heap started types is none settings names fresh empty =
       has_heap = record { parts = fresh.parts; is = fresh.is; settings_are = ap (λ (p : HeapParts). p.setup.settings) fresh.fresh.are };
       table = ap (λ (h : HeapSeen). table_of h.parts) fresh.is
           ∙ (ap (λ (p : HeapParts). p.setup.types) fresh.fresh.are ∙ ap (λ (t : Option (Table TypeInfo)). types_in t heap) (sym is));
-      told = ap told_by fresh.is ∙ (sym (look_told fresh.parts (empty_store session.settings) stands)
-          ∙ (look-empty session.settings ∙ ap (λ (t : Option (Table TypeInfo)). seen_if t heap) (sym is)));
+      told = ap told_by fresh.is ∙ (untold ∙ ap (λ (t : Option (Table TypeInfo)). seen_if t heap) (sym is));
+      founds = λ root. ap (λ (h : HeapSeen). found_in h root) fresh.is
+          ∙ (found_untold fresh.parts root untold ∙ sym (nothing_found session heap types root is placed));
       stores = λ store stands. subst (StandsFor started) (sym (subst (λ (t : Option (Table TypeInfo)). HasStore t session.settings heap store) is stands)) empty;
     }
+
+-- what was found for a command is found in the heap that was started
+pub found_begun : (session mid : SessionSeen) (heap started : HeapSeen) (command : Command) → Begins session mid heap started
+    → found_for started command ≡ found_for heap command
+found_begun session mid heap started command b = λ i. of_fields (λ root. b.founds root i) command
 
 -- settings and types of the heap are those of the session
 pub setup_same : (session mid : SessionSeen) (heap started : HeapSeen) (b : Begins session mid heap started) → b.has_heap.parts.setup ≡ setup_of session heap

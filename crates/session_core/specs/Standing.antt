@@ -18,6 +18,7 @@ use Rattle.heap_core.specs.declared.fault.HeapFault.{HeapFault}
 use Rattle.heap_core.specs.declared.fault.HeapFault.TheVariants.{Spent, OutOfMemory as NoMemory, HeapLimit as OverLimit}
 use Rattle.heap_core.specs.Heap.{HeapSeen, closed_heap, heap_of, StandsFor}
 use Rattle.heap_core.specs.Commands.{nothing_told, told_by, setup_in}
+use Rattle.heap_core.specs.Found.{found_in}
 use Rattle.session_core.specs.declared.session.RunFault.{RunFault}
 use Rattle.session_core.specs.declared.session.RunFault.TheVariants.{Malformed, HeapLimit, OutOfMemory}
 use Rattle.session_core.specs.Blocks.{LeavesOff}
@@ -105,6 +106,7 @@ pub record Begins (old new : SessionSeen) (heap started : HeapSeen) : Type 0 whe
   pub has_heap : IsStarted old.settings started
   pub table : table_of started.parts ≡ types_in old.types heap
   pub told : told_by started ≡ seen_if old.types heap
+  pub founds : (root : ℕ) → found_in started root ≡ found_in heap root
   pub stores : (store : Store) → HasStore old.types old.settings heap store → StandsFor started store
 
 -- The item was done: from `at`, it added groups with these lines.

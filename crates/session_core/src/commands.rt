@@ -3,21 +3,24 @@ ghost use Rattle.std.specs.Prelude.{◌≡◌, ◌<◌, false, IfErr, OnOk, OnEr
 ghost use Rattle.heap_core.specs.declared.fault.HeapFault.TheVariants.{OutOfMemory};
 ghost use Rattle.heap_core.specs.Commands.{CanDo, Performs, Keeps};
 ghost use Rattle.session_core.specs.Commands.{may_collect, is_early, is_middle, is_no_struct};
+ghost use Rattle.session_core.specs.Finding.{found_for};
 ghost use Rattle.session_core.specs.Standing.{KeepsFront};
 ghost use Rattle.session_core.specs.Ends.{EndsCommand};
 
-use heap_core::{Dec, Heap, HeapFault};
+use heap_core::{Dec, Found, Heap, HeapFault};
 use store_model::{Command, Line};
 
-/// Does a command that is not refused, and appends its lines. Those of the collections before a birth that the limit refuses are
+/// Does a command that is not refused, with what was found for it, and appends its lines. Those of the collections before a birth that the limit refuses are
 /// appended too. Where memory runs out, the heap is spent or stands where whole blocks of collections led, and the old lines
 /// stand in front.
 pub(crate) fn do_command(
     heap: &mut Heap,
     command: &Command,
+    found: Option<Found>,
     out: &mut Vec<Line>,
 ) -> Result<(), HeapFault>
     requires can { CanDo heap.old command.now }
+    requires found { found ≡ found_for heap.old command.now }
     requires alive { heap.old.is_spent ≡ false }
     ensures { EndsCommand command.now heap.old heap.new out.old.items out.new.items result }
 {
@@ -32,13 +35,19 @@ pub(crate) fn do_command(
         Command::Minor => heap.minor(out),
         Command::Step => heap.step(out),
         Command::Collect => heap.collect(out),
-        _ => do_at_once(heap, command, out),
+        _ => do_at_once(heap, command, found, out),
     }
 }
 
 /// The same of a command that makes no collection. Where memory runs out, the heap stands where it stood.
-fn do_at_once(heap: &mut Heap, command: &Command, out: &mut Vec<Line>) -> Result<(), HeapFault>
+fn do_at_once(
+    heap: &mut Heap,
+    command: &Command,
+    found: Option<Found>,
+    out: &mut Vec<Line>,
+) -> Result<(), HeapFault>
     requires can { CanDo heap.old command.now }
+    requires found { found ≡ found_for heap.old command.now }
     requires alive { heap.old.is_spent ≡ false }
     requires rest { may_collect command.now ≡ false }
     ensures performs { OnOk result (Performs heap.old heap.new command.now out.old.items out.new.items) }
@@ -47,12 +56,18 @@ fn do_at_once(heap: &mut Heap, command: &Command, out: &mut Vec<Line>) -> Result
     ensures cause { IfErr result (λ fault. fault ≡ OutOfMemory) }
 {
     out.reserve(1)?;
-    on_objects(heap, command, out)
+    on_objects(heap, command, found, out)
 }
 
 /// The same where there is room for the one line that such a command prints at most.
-fn on_objects(heap: &mut Heap, command: &Command, out: &mut Vec<Line>) -> Result<(), HeapFault>
+fn on_objects(
+    heap: &mut Heap,
+    command: &Command,
+    found: Option<Found>,
+    out: &mut Vec<Line>,
+) -> Result<(), HeapFault>
     requires can { CanDo heap.old command.now }
+    requires found { found ≡ found_for heap.old command.now }
     requires alive { heap.old.is_spent ≡ false }
     requires room { vec_len out.old < vec_capacity out.old }
     requires rest { may_collect command.now ≡ false }
@@ -62,15 +77,15 @@ fn on_objects(heap: &mut Heap, command: &Command, out: &mut Vec<Line>) -> Result
     ensures cause { IfErr result (λ fault. fault ≡ OutOfMemory) }
 {
     match *command {
-        Command::Put { root, item, value } => heap.put(root, item, value),
+        Command::Put { root, item, value } => heap.put_found(root, found, item, value),
         Command::Get { root, item } => {
-            let value = heap.get(root, item)?;
+            let value = heap.get_found(root, found, item)?;
             out.push_reserved(Line::Got { value });
             Ok(())
         }
-        Command::Link { root, item, from } => heap.link(root, item, from),
+        Command::Link { root, item, from } => heap.link_found(root, found, item, from),
         Command::Load { to, root, item } => {
-            let birth = heap.load(to, root, item)?;
+            let birth = heap.load_found(to, root, found, item)?;
             out.push_reserved(Line::Loaded { birth });
             Ok(())
         }

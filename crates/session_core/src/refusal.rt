@@ -9,6 +9,7 @@ ghost use Rattle.store_model.specs.Checks.{first_reason, setting_checks, type_ch
 ghost use Rattle.store_model.specs.StructChecks.{weak_checks, unpin_checks, queue_checks, register_checks, link_checks, struct_checks};
 ghost use Rattle.store_model.specs.Refusal.{checks_in_range, command_checks};
 ghost use Rattle.session_core.specs.Standing.{IsPlaced, setup_of, seen_if, types_in, refusal_of};
+ghost use Rattle.session_core.specs.Finding.{kind_for, kind_by};
 
 use crate::checks::{
     copy_refusal, dec_refusal, found_refusal, inc_refusal, int_refusal, link_refusal,
@@ -17,21 +18,22 @@ use crate::checks::{
 use crate::session::Session;
 use crate::settings::is_outside;
 use heap_core::Heap;
-use store_model::{Command, Item, Reason, Shape, TypeInfo};
+use store_model::{Command, Item, Kind, Reason, Shape, TypeInfo};
 use type_table::MAX_TYPES;
 
 impl Session {
-    /// The first reason for which the program refuses an item, if it does.
+    /// The first reason for which the program refuses an item, if it does. `kind` tells of the object whose items it works on.
     #[tactic(auto, unfolding(store_model::specs::Refusal::refusal_seen))]
-    pub(crate) fn refusal(&self, heap: &Heap, item: &Item) -> Option<Reason>
-        requires { IsPlaced self.now heap.now }
+    pub(crate) fn refusal(&self, heap: &Heap, item: &Item, kind: Option<Kind>) -> Option<Reason>
+        requires placed { IsPlaced self.now heap.now }
+        requires kind { kind ≡ kind_by (seen_if self.now.types heap.now) item.now }
         ensures { result ≡ refusal_of self.now heap.now item.now }
     {
         match *item {
             Item::Blank => None,
             Item::Setting { name, value } => self.setting_refusal(name, value),
             Item::TypeDef { id, .. } => self.type_refusal(heap, id),
-            Item::Command(command) => self.command_refusal(heap, &command),
+            Item::Command(command) => self.command_refusal(heap, &command, kind),
         }
     }
 
@@ -68,19 +70,21 @@ impl Session {
     }
 
     /// The first reason for which a command is refused, if it is.
-    fn command_refusal(&self, heap: &Heap, command: &Command) -> Option<Reason>
-        requires { IsPlaced self.now heap.now }
+    fn command_refusal(&self, heap: &Heap, command: &Command, kind: Option<Kind>) -> Option<Reason>
+        requires placed { IsPlaced self.now heap.now }
+        requires kind { kind ≡ kind_for (seen_if self.now.types heap.now) command.now }
         ensures { result ≡ first_reason (command_checks (setup_of self.now heap.now) (seen_if self.now.types heap.now) command.now) }
     {
         if command.is_above() {
             return Some(Reason::Range);
         }
-        self.refusal_in_range(heap, command)
+        self.refusal_in_range(heap, command, kind)
     }
 
     /// The same for a command none of whose numbers is out of range.
-    fn refusal_in_range(&self, heap: &Heap, command: &Command) -> Option<Reason>
+    fn refusal_in_range(&self, heap: &Heap, command: &Command, kind: Option<Kind>) -> Option<Reason>
         requires placed { IsPlaced self.now heap.now }
+        requires kind { kind ≡ kind_for (seen_if self.now.types heap.now) command.now }
         requires in_range { is_above command.now ≡ false }
         ensures { result ≡ first_reason (checks_in_range (setup_of self.now heap.now) (seen_if self.now.types heap.now) command.now) }
     {
@@ -93,12 +97,10 @@ impl Session {
                 type_id,
                 target,
             } => self.new_weak_refusal(heap, root, type_id, target),
-            Command::Put { root, item, .. } => self.item_refusal(heap, root, item),
-            Command::Get { root, item } => self.item_refusal(heap, root, item),
-            Command::Link { root, item, from } => {
-                self.reference_refusal(heap, root, from, root, item)
-            }
-            Command::Load { to, root, item } => self.reference_refusal(heap, to, root, root, item),
+            Command::Put { root, item, .. } => self.item_refusal(root, kind, item),
+            Command::Get { root, item } => self.item_refusal(root, kind, item),
+            Command::Link { root, item, from } => self.reference_refusal(root, from, kind, item),
+            Command::Load { to, root, item } => self.reference_refusal(to, root, kind, item),
             Command::CopyRefs {
                 root,
                 item,
@@ -144,33 +146,30 @@ impl Session {
         found_refusal(self.kind_in(heap, root))
     }
 
-    /// Of a whole number of the object in a slot.
-    fn item_refusal(&self, heap: &Heap, root: u32, item: u64) -> Option<Reason>
-        requires { IsPlaced self.now heap.now }
-        ensures { result ≡ first_reason (slots_checks self.now.settings.roots (root ∷ []) ++ int_checks ((seen_if self.now.types heap.now).kind root) item) }
+    /// Of a whole number of the object in a slot, which is of this kind.
+    fn item_refusal(&self, root: u32, kind: Option<Kind>, item: u64) -> Option<Reason>
+        ensures { result ≡ first_reason (slots_checks self.now.settings.roots (root ∷ []) ++ int_checks kind item) }
     {
         if u64::from(root) >= self.settings.roots {
             return Some(Reason::NoRoot);
         }
-        int_refusal(self.kind_in(heap, root), item)
+        int_refusal(kind, item)
     }
 
-    /// Of a reference of the object in a slot, where a command names two slots.
+    /// Of a reference of an object of this kind, where a command names two slots.
     fn reference_refusal(
         &self,
-        heap: &Heap,
         first: u32,
         second: u32,
-        root: u32,
+        kind: Option<Kind>,
         item: u64,
     ) -> Option<Reason>
-        requires { IsPlaced self.now heap.now }
-        ensures { result ≡ first_reason (slots_checks self.now.settings.roots (first ∷ second ∷ []) ++ ref_checks ((seen_if self.now.types heap.now).kind root) item) }
+        ensures { result ≡ first_reason (slots_checks self.now.settings.roots (first ∷ second ∷ []) ++ ref_checks kind item) }
     {
         if let Some(reason) = slots_refusal(self.settings.roots, first, second) {
             return Some(reason);
         }
-        ref_refusal(self.kind_in(heap, root), item)
+        ref_refusal(kind, item)
     }
 
     /// Of a copy of references, up to these ends of the two ranges of items.

@@ -6,11 +6,12 @@ ghost use Rattle.store_model.specs.Progress.{Progress};
 ghost use Rattle.object_model.specs.Setup.{defaults};
 ghost use Rattle.heap_core.specs.declared.fault.HeapFault.TheVariants.{Spent, OutOfMemory as NoMemory};
 ghost use Rattle.session_core.specs.Seen.{SessionSeen};
+ghost use Rattle.session_core.specs.Finding.{found_for};
 ghost use Rattle.session_core.specs.Standing.{IsPlaced, StandsAt, Answers, Sets, Adds, Begins, fault_told, refusal_of};
 
 use crate::commands::do_command;
 use crate::settings::with_setting;
-use heap_core::{Heap, HeapFault};
+use heap_core::{Found, Heap, HeapFault, kind_found};
 use std::alloc::{AllocError, AllocFailed, Global};
 use std::marker::Model;
 use store_model::{Command, Item, Line, Reason, Settings, TypeInfo};
@@ -129,7 +130,8 @@ impl Session {
         requires { IsPlaced self.old heap.old }
         ensures answers { (at : Progress) → StandsAt self.old heap.old at → Answers at item.now self.new heap.new out.old.items out.new.items result }
     {
-        if let Some(reason) = self.refusal(heap, item) {
+        let found = self.found(heap, item);
+        if let Some(reason) = self.refusal(heap, item, kind_found(found)) {
             return Err(RunFault::Malformed(reason));
         }
         match *item {
@@ -142,18 +144,20 @@ impl Session {
                 Ok(()) => Ok(()),
                 Err(_) => Err(RunFault::OutOfMemory),
             },
-            Item::Command(command) => self.command(heap, &command, out),
+            Item::Command(command) => self.command(heap, &command, found, out),
         }
     }
 
-    /// Does a command that is not refused.
+    /// Does a command that is not refused, with what was found for it.
     fn command(
         &mut self,
         heap: &mut Heap,
         command: &Command,
+        found: Option<Found>,
         out: &mut Vec<Line>,
     ) -> Result<(), RunFault>
         requires placed { IsPlaced self.old heap.old }
+        requires found { found ≡ found_for heap.old command.now }
         requires accepted { refusal_of self.old heap.old (CommandItem command.now) ≡ None }
         ensures { (at : Progress) → StandsAt self.old heap.old at →
             Answers at (CommandItem command.now) self.new heap.new out.old.items out.new.items result }
@@ -162,7 +166,7 @@ impl Session {
             Ok(()) => {}
             Err(fault) => return Err(run_fault(fault)),
         }
-        match do_command(heap, command, out) {
+        match do_command(heap, command, found, out) {
             Ok(()) => Ok(()),
             Err(fault) => Err(run_fault(fault)),
         }

@@ -1,11 +1,13 @@
 //! What a session's heap tells: before the first command, nothing.
-ghost use Rattle.std.specs.Prelude.{◌≡◌};
+ghost use Rattle.std.specs.Prelude.{◌≡◌, option_map};
 ghost use Rattle.object_model.specs.Setup.{type_at};
+ghost use Rattle.heap_core.specs.Found.{kind_of, found_in};
+ghost use Rattle.session_core.specs.Finding.{found_for, found_by, kind_for, kind_by};
 ghost use Rattle.session_core.specs.Standing.{IsPlaced, setup_of, seen_if};
 
 use crate::session::Session;
-use heap_core::Heap;
-use store_model::{Kind, StructState, TypeInfo};
+use heap_core::{Found, Heap};
+use store_model::{Command, Item, Kind, StructState, TypeInfo};
 
 impl Session {
     /// The type of an id, if there is one.
@@ -15,6 +17,46 @@ impl Session {
         match &self.types {
             None => heap.type_info(id),
             Some(types) => types.get(id),
+        }
+    }
+
+    /// What is seen of the object whose items an item of the script works on, if it is such a command and that object is there. The
+    /// refusals ask of it, and the command is done with it.
+    pub(crate) fn found(&self, heap: &Heap, item: &Item) -> Option<Found>
+        requires { IsPlaced self.now heap.now }
+        ensures value { result ≡ found_by heap.now item.now }
+        ensures kind { option_map kind_of result ≡ kind_by (seen_if self.now.types heap.now) item.now }
+    {
+        match *item {
+            Item::Command(command) => self.found_for(heap, &command),
+            _ => None,
+        }
+    }
+
+    /// The same of a command.
+    fn found_for(&self, heap: &Heap, command: &Command) -> Option<Found>
+        requires { IsPlaced self.now heap.now }
+        ensures value { result ≡ found_for heap.now command.now }
+        ensures kind { option_map kind_of result ≡ kind_for (seen_if self.now.types heap.now) command.now }
+    {
+        match *command {
+            Command::Put { root, .. } => self.found_in(heap, root),
+            Command::Get { root, .. } => self.found_in(heap, root),
+            Command::Link { root, .. } => self.found_in(heap, root),
+            Command::Load { root, .. } => self.found_in(heap, root),
+            _ => None,
+        }
+    }
+
+    /// What is seen of the object in a slot, if there is one.
+    fn found_in(&self, heap: &Heap, root: u32) -> Option<Found>
+        requires { IsPlaced self.now heap.now }
+        ensures value { result ≡ found_in heap.now root }
+        ensures kind { option_map kind_of result ≡ (seen_if self.now.types heap.now).kind root }
+    {
+        match &self.types {
+            None => heap.found(root),
+            Some(_) => None,
         }
     }
 

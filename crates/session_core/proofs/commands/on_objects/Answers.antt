@@ -8,7 +8,7 @@ returns-in_ok-value-in-Get-clause-performs c =
 
 pub returns-in-Link-clause-performs : goal.returns-in-Link-clause-performs
 returns-in-Link-clause-performs c =
-    quiet c.args.heap.now c.link.new.self c.args.command.now _ c.args.out.now.items c.link.result c.in-Link.is c.link.ensures.performs
+    quiet c.args.heap.now c.link_found.new.self c.args.command.now _ c.args.out.now.items c.link_found.result c.in-Link.is c.link_found.ensures.performs
 
 pub returns-in_ok-yes-in-Same-clause-performs : goal.returns-in_ok-yes-in-Same-clause-performs
 returns-in_ok-yes-in-Same-clause-performs c =

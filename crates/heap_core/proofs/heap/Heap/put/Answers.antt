@@ -3,7 +3,8 @@ use Rattle.text_model.specs.declared.command.Command.TheVariants.{Put}
 use Rattle.heap_core.specs.Seen.{seen}
 use Rattle.heap_core.specs.declared.heap.Heap.TheInside.{Inside}
 use Rattle.heap_core.specs.declared.heap.State.TheVariants.{Started}
-use Rattle.heap_core.proofs.Calls.{in_state, performs_started, performs_idle}
+use Rattle.heap_core.proofs.Calls.{in_state, ready_of, performs_started, performs_idle}
+use Rattle.heap_core.proofs.TellerLaws.{whole_in}
 use Rattle.heap_core.proofs.heap.Heap.put.Goals as goal
 use Rattle.heap_core.proofs.heap.Heap.put.Goals.{in-Started, in-Closed, in-Closed-2}
 
@@ -17,3 +18,9 @@ returns-clause-performs c = elim c.match-self.branch [
   | in-Closed-2 w ↦ performs_idle c.args.self.now _ c.self.inside.state (Put c.args.root c.args.i c.args.v) [] [] w.in-Closed.is c.self.view_is
       (ap (λ (i : Inside). seen i.state) w.self-inside-is) c.requires
 ]
+
+pub find-found-requires : goal.find-found-requires
+find-found-requires c = λ full.
+    let parts = c.in-Started.parts in
+    let now = in_state c.args.self.now c.self.inside.state (Started parts) c.self.view_is c.in-Started.is in
+    whole_in parts c.args.root (ready_of c.args.self.now parts (Put c.args.root c.args.i c.args.v) now c.requires).standing full

@@ -15,7 +15,7 @@ returns-clause-begins c =
     let for_heap : c.self.inside.for_heap ≡ Some c.in-Some.types = sym c.take.ensures.value ∙ c.in-Some.is in
     let types : c.self.inside.types ≡ Some c.in-Some.types = subst (λ (t : Option (Table TypeInfo)). IsForHeap t c.self.inside.types) for_heap c.self.invariant.1 in
     begins_first c.args.self.now _ c.args.heap.now c.start.new.self c.in-Some.types (sym (ap (λ (s : SessionSeen). s.types) c.self.view_is) ∙ types)
-    refl settings (ap (λ (s : SessionSeen). s.names) c.self.view_is)
+    refl settings (ap (λ (s : SessionSeen). s.names) c.self.view_is) c.requires
     (subst (λ (s : Settings). IsFresh c.start.new.self s c.in-Some.types) settings c.in_ok-start.ensures.started)
     (subst (λ (s : Settings). StandsFor c.start.new.self (empty_store s)) settings c.in_ok-start.ensures.empty)
 

@@ -1,7 +1,7 @@
-use Rattle.std.proofs.Common.{ap, ◌∙◌}
+use Rattle.std.proofs.Common.{sym, ap, ◌∙◌}
 use Rattle.text_model.specs.declared.item.Item.TheVariants.{Command as CommandItem}
 use Rattle.session_core.specs.Standing.{fault_told}
-use Rattle.session_core.proofs.Items.{can_do, does_command, leaves_item}
+use Rattle.session_core.proofs.Items.{can_do, does_command, leaves_item, found_begun}
 use Rattle.session_core.proofs.Collecting.{answers_fault, fails_alive}
 use Rattle.session_core.proofs.session.Session.command.Goals as goal
 
@@ -28,3 +28,7 @@ run_fault-requires-in-Err-do_command c =
 pub do_command-requires-clause-can : goal.do_command-requires-clause-can
 do_command-requires-clause-can c =
     can_do c.args.self.now c.begin.new.self c.args.heap.now c.begin.new.heap c.args.command.now c.requires.accepted c.requires.placed c.in-Ok.ensures.begins
+
+pub do_command-requires-clause-found : goal.do_command-requires-clause-found
+do_command-requires-clause-found c =
+    c.requires.found ∙ sym (found_begun c.args.self.now c.begin.new.self c.args.heap.now c.begin.new.heap c.args.command.now c.in-Ok.ensures.begins)

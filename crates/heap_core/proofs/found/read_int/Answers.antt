@@ -1,0 +1,7 @@
+use Rattle.heap_parts.specs.contracts.parts.Parts.{the_view}
+use Rattle.heap_core.proofs.FoundCalls.{open-view}
+use Rattle.heap_core.proofs.found.read_int.Goals as goal
+
+pub int_at-requires-clause-whole : goal.int_at-requires-clause-whole
+int_at-requires-clause-whole c =
+    open-view c.args.parts.now (the_view c.parts.inside) c.args.found c.parts.view_is c.arena_words-ordered.ensures.ordered c.requires.seen
