@@ -10,9 +10,10 @@ ghost use Rattle.session_core.specs.Ends.{EndsCommand};
 use heap_core::{Dec, Found, Heap, HeapFault};
 use store_model::{Command, Line};
 
-/// Does a command that is not refused, with what was found for it, and appends its lines. Those of the collections before a birth that the limit refuses are
-/// appended too. Where memory runs out, the heap is spent or stands where whole blocks of collections led, and the old lines
-/// stand in front.
+/// Does a command that is not refused, with what was found for it, and appends its lines. Those of
+/// the collections before a birth that the limit refuses are appended too. Where memory runs out,
+/// the heap is spent or stands where whole blocks of collections led, and the old lines stand in
+/// front.
 pub(crate) fn do_command(
     heap: &mut Heap,
     command: &Command,
