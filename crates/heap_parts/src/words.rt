@@ -4,12 +4,12 @@ ghost use Rattle.object_view.specs.Views.{HasObject};
 ghost use Rattle.object_model.specs.ObjectWords.{type_id_at};
 ghost use Rattle.parts_model.specs.Parts.{word_in, place_in};
 ghost use Rattle.parts_model.specs.Told.{kind_at};
-ghost use Rattle.parts_model.specs.Effects.{birth_read, HasObjectIn, layout_in, int_place, ref_place, with_word_at, with_slot};
+ghost use Rattle.parts_model.specs.Effects.{birth_read, HasObjectIn, layout_in, with_slot};
 ghost use Rattle.parts_model.specs.Copies.{with_copy};
 
 use crate::parts::Parts;
 use object_model::Kind;
-use object_view::{int_at, move_refs, ref_at, set_int, set_ref, view};
+use object_view::{move_refs, view};
 
 impl Parts {
     /// The place of the object in a slot, 0 where it is empty or not there.
@@ -65,50 +65,6 @@ impl Parts {
             return None;
         }
         Some(view(&self.space, &self.types, place).birth)
-    }
-
-    /// Puts a whole number into an item of the object in a slot.
-    pub fn put(&mut self, root: u32, item: u64, value: u64)
-        requires object { HasObjectIn self.old root }
-        requires item { item < (layout_in self.old root).int_count }
-        ensures { self.new ≡ with_word_at self.old (int_place self.old root item) value }
-    {
-        let place = self.place(root);
-        let v = view(&self.space, &self.types, place);
-        set_int(&mut self.space, v, place, item, value);
-    }
-
-    /// A whole number of the object in a slot.
-    pub fn get(&self, root: u32, item: u64) -> u64
-        requires object { HasObjectIn self.now root }
-        requires item { item < (layout_in self.now root).int_count }
-        ensures { result ≡ word_in self.now (int_place self.now root item) }
-    {
-        let place = self.place(root);
-        let v = view(&self.space, &self.types, place);
-        int_at(&self.space, v, place, item)
-    }
-
-    /// Puts the place of an object, or 0, into an item of the object in a slot.
-    pub fn link(&mut self, root: u32, item: u64, to: u64)
-        requires object { HasObjectIn self.old root }
-        requires item { item < (layout_in self.old root).ref_count }
-        ensures { self.new ≡ with_word_at self.old (ref_place self.old root item) to }
-    {
-        let place = self.place(root);
-        let v = view(&self.space, &self.types, place);
-        set_ref(&mut self.space, v, place, item, to);
-    }
-
-    /// The place to which a reference of the object in a slot leads, or 0.
-    pub fn reference(&self, root: u32, item: u64) -> u64
-        requires object { HasObjectIn self.now root }
-        requires item { item < (layout_in self.now root).ref_count }
-        ensures { result ≡ word_in self.now (ref_place self.now root item) }
-    {
-        let place = self.place(root);
-        let v = view(&self.space, &self.types, place);
-        ref_at(&self.space, v, place, item)
     }
 
     /// Copies so many references of the object in the slot `from`, from an item on, to items of the object in the slot
