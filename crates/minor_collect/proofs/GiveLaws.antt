@@ -20,6 +20,7 @@ use Rattle.object_model.specs.ObjectWords.{words_at}
 use Rattle.heap_parts.specs.Parts.{HeapParts, home_in}
 use Rattle.heap_parts.specs.Places.{is_young, young_places, old_places}
 use Rattle.heap_parts.specs.OldSpace.{blocks_of}
+use Rattle.heap_parts.proofs.BlockLaws.{lies-kept}
 use Rattle.frame_laws.proofs.PlaceLaws.{young-is_in}
 use Rattle.minor_collect.specs.Gives.{Giving, GivesSome, GaveOne}
 use Rattle.minor_collect.specs.Homes.{GivesHomes}
@@ -27,7 +28,6 @@ use Rattle.minor_collect.proofs.EndBlocks.{without_home, blocks-taken}
 use Rattle.minor_collect.proofs.HomesBack.{homes_step}
 use Rattle.minor_collect.proofs.KeepsMade.{made_none, made_one}
 use Rattle.minor_collect.proofs.SameMembers.{part_differs}
-use Rattle.minor_collect.proofs.TakeRoom.{lies-kept}
 
 -- the parts once the home is given back
 abbrev pub given_parts : HeapParts → Memory → FinMap nat_cmp ℕ → Old → HeapParts

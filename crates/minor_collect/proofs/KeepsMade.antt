@@ -5,7 +5,7 @@ use Rattle.heap_space.specs.Extents.{KeepsOutside}
 use Rattle.old_space.specs.HasBlocks.{KeepsSizes}
 use Rattle.old_space.specs.declared.Old.{Old}
 use Rattle.minor_collect.specs.Gives.{KeepsMade}
-use Rattle.minor_collect.proofs.TakeRoom.{lies-kept}
+use Rattle.heap_parts.proofs.BlockLaws.{lies-kept}
 
 -- where none was given back
 pub made_none : (old_blocks : Old) (memory : Memory) → KeepsMade old_blocks old_blocks memory memory

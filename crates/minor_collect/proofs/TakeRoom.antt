@@ -1,16 +1,13 @@
 -- A block is taken: the middle stays, and has that block.
-use Rattle.std.proofs.Common.{◌≡◌, ℕ, ◌+◌, ◌<◌, ◌≤◌, true, IsTrue, List, [], ◌∷◌, map, Result, Ok, Err, IfOk, refl, sym, ap, ◌∙◌, subst, inl, inr, arith}
+use Rattle.std.proofs.Common.{◌≡◌, ℕ, ◌+◌, ◌≤◌, true, IsTrue, List, [], ◌∷◌, map, Result, Ok, Err, IfOk, refl, sym, ap, ◌∙◌, subst, inl, inr, arith}
 use Rattle.std.specs.Prelude.{IsSome}
-use Rattle.std.specs.List.{filter}
 use Rattle.std.specs.declared.alloc.AllocError.{AllocError}
 use Rattle.std.proofs.lemmas.Bool.{cases_Bool}
-use Rattle.std.proofs.lemmas.Bool.Decides.{nat_tests}
 use Rattle.type_table.specs.declared.info.TypeInfo.{TypeInfo}
 use Rattle.type_table.specs.Table.{Table, value_at}
 use Rattle.heap_space.specs.Places.{lies_in_one, word_at}
 use Rattle.heap_space.specs.Memory.{Memory}
-use Rattle.heap_space.specs.Extents.{Extent, Each, KeepsWords, KeepsOutside, extent_of, begins_between, extents_between, lies_within}
-use Rattle.heap_space.proofs.ExtentLaws.{lies_in_one-extents, lies_in_one-between}
+use Rattle.heap_space.specs.Extents.{Extent, Each, KeepsWords, KeepsOutside}
 use Rattle.object_view.specs.Moving.{HasLeft}
 use Rattle.object_view.proofs.InitLaws.{lies-part}
 use Rattle.object_view.proofs.LayoutLaws.{keeps-same, laid_out}
@@ -25,7 +22,7 @@ use Rattle.heap_parts.specs.Places.{is_young, young_places, old_places, block_at
 use Rattle.heap_parts.specs.OldSpace.{blocks_of, reserved_blocks}
 use Rattle.heap_parts.specs.Births.{with_old_blocks}
 use Rattle.frame_laws.proofs.Members.{each-left}
-use Rattle.heap_parts.proofs.BlockLaws.{each-member}
+use Rattle.heap_parts.proofs.BlockLaws.{each-member, lies-kept}
 use Rattle.frame_laws.proofs.PlaceLaws.{is_in-young, is_in-old}
 use Rattle.frame_laws.proofs.TakeLaws.{taken_spare}
 use Rattle.minor_collect.specs.Homes.{KeepsAll}
@@ -34,18 +31,6 @@ use Rattle.minor_collect.specs.Calls.{Stage, Spot, Middle, TookRoom, remembered_
 use Rattle.minor_collect.proofs.Sizes.{sizes_stay}
 use Rattle.minor_collect.proofs.TakeKeeps.{keeps_all}
 use Rattle.minor_collect.proofs.Takes.{midway_keeps}
-
--- what lies in one extent lies in one that begins before an end behind it
-within-below : (xs : List Extent) (high a n : ℕ) → a < high → lies_within xs a n ≡ true → lies_within (filter (begins_between 0 high) xs) a n ≡ true
-within-below [] high a n l h = h
-within-below (x ∷ xs) high a n l h = grind (arith, nat_tests, within-below xs high a n l)
-
--- words that lie in one block lie in one still where the blocks that begin before an end behind them stay
-pub lies-kept : (old new : Memory) (high a n : ℕ) → extents_between 0 high new ≡ extents_between 0 high old → a < high
-    → lies_in_one old.blocks a n ≡ true → lies_in_one new.blocks a n ≡ true
-lies-kept old new high a n same l lies =
-    lies_in_one-between new 0 high a n (ap (λ (xs : List Extent). lies_within xs a n) same
-    ∙ within-below (map extent_of old.blocks) high a n l (sym (lies_in_one-extents old.blocks a n) ∙ lies))
 
 -- the live blocks of a middle in which none is taken
 abbrev pub live_in : (stage : Stage) (now : HeapParts) (spot : Spot) → List Extent
