@@ -136,8 +136,35 @@ impl Areas {
         requires { IsTrue (has self.now.blocks a) }
         ensures { result ≡ word_at self.now.blocks a }
     {
-        let seat = self.seat(a);
-        self.word(seat)
+        if a < FIRST_ARENA {
+            self.nursery.read((a - 1) as usize)
+        } else if a < FIRST_LARGE {
+            self.read_arena(a)
+        } else {
+            self.read_large(a)
+        }
+    }
+
+    // The word at a place of the arenas.
+    #[inline]
+    fn read_arena(&self, a: u64) -> u64
+        requires held { IsTrue (has self.now.blocks a) }
+        requires among { (FIRST_ARENA ≤ a) × (a < FIRST_LARGE) }
+        ensures { result ≡ word_at self.now.blocks a }
+    {
+        let distance = a - FIRST_ARENA;
+        let arena = &self.arenas[(distance / self.arena_words) as usize];
+        arena.read((distance % self.arena_words) as usize)
+    }
+
+    // The word at a place of the large blocks.
+    fn read_large(&self, a: u64) -> u64
+        requires held { IsTrue (has self.now.blocks a) }
+        requires among { FIRST_LARGE ≤ a }
+        ensures { result ≡ word_at self.now.blocks a }
+    {
+        let large = &self.larges[large_index(&self.larges, a)];
+        large.read((a - large.base()) as usize)
     }
 
     /// The word at a is v from then on, and every other word stays.
@@ -146,8 +173,37 @@ impl Areas {
         requires { IsTrue (has self.old.blocks a) }
         ensures { self.new ≡ record self.old { blocks = with_word self.old.blocks a v } }
     {
-        let seat = self.seat(a);
-        self.set_word(seat, v);
+        if a < FIRST_ARENA {
+            self.nursery.write((a - 1) as usize, v);
+        } else if a < FIRST_LARGE {
+            self.write_arena(a, v);
+        } else {
+            self.write_large(a, v);
+        }
+    }
+
+    // The word at a place of the arenas is v from then on.
+    #[inline]
+    fn write_arena(&mut self, a: u64, v: u64)
+        requires held { IsTrue (has self.old.blocks a) }
+        requires among { (FIRST_ARENA ≤ a) × (a < FIRST_LARGE) }
+        ensures { self.new ≡ record self.old { blocks = with_word self.old.blocks a v } }
+    {
+        let distance = a - FIRST_ARENA;
+        let arena = &mut self.arenas[(distance / self.arena_words) as usize];
+        arena.write((distance % self.arena_words) as usize, v);
+    }
+
+    // The word at a place of the large blocks is v from then on.
+    fn write_large(&mut self, a: u64, v: u64)
+        requires held { IsTrue (has self.old.blocks a) }
+        requires among { FIRST_LARGE ≤ a }
+        ensures { self.new ≡ record self.old { blocks = with_word self.old.blocks a v } }
+    {
+        let index = large_index(&self.larges, a);
+        let large = &mut self.larges[index];
+        let offset = (a - large.base()) as usize;
+        large.write(offset, v);
     }
 
     /// Copies n words to the places from `to` on. All are read as they were before.
