@@ -51,7 +51,7 @@ use Rattle.minor_collect.proofs.MoveInto.{MovesBlocks, WritesInto, moved_into_bl
 use Rattle.minor_collect.proofs.MoveMidway.{MovesTo, midway_moves}
 use Rattle.minor_collect.proofs.MoveStep.{CanMove, settled_words_at, head_keeps, step_rest, young_cases}
 use Rattle.minor_collect.proofs.OpenStep.{midway_follows}
-use Rattle.minor_collect.proofs.SameMembers.{names_differ, part_differs}
+use Rattle.object_model.proofs.SameMembers.{names_differ, part_differs}
 use Rattle.minor_collect.proofs.Sizes.{sizes_move}
 use Rattle.minor_collect.proofs.TakeKeeps.{reserved-one}
 use Rattle.minor_collect.proofs.Takes.{free_room}
