@@ -143,8 +143,33 @@ impl Areas {
         if a < FIRST_ARENA {
             return self.nursery.read((a - 1) as usize);
         }
-        let seat = self.seat(a);
-        self.word(seat)
+        if a < FIRST_LARGE {
+            return self.read_arena(a);
+        }
+        self.read_large(a)
+    }
+
+    // The word at a place of the arenas.
+    #[inline]
+    fn read_arena(&self, a: u64) -> u64
+        requires held { IsTrue (has self.now.blocks a) }
+        requires among { (FIRST_ARENA ≤ a) × (a < FIRST_LARGE) }
+        ensures { result ≡ word_at self.now.blocks a }
+    {
+        let distance = a - FIRST_ARENA;
+        let number = self.arena_number(distance);
+        let offset = distance - number * self.arena_words;
+        self.arenas[number as usize].read(offset as usize)
+    }
+
+    // The word at a place of the large blocks.
+    fn read_large(&self, a: u64) -> u64
+        requires held { IsTrue (has self.now.blocks a) }
+        requires among { FIRST_LARGE ≤ a }
+        ensures { result ≡ word_at self.now.blocks a }
+    {
+        let large = &self.larges[large_index(&self.larges, a)];
+        large.read((a - large.base()) as usize)
     }
 
     /// The word at a is v from then on, and every other word stays.
@@ -157,8 +182,35 @@ impl Areas {
             self.nursery.write((a - 1) as usize, v);
             return;
         }
-        let seat = self.seat(a);
-        self.set_word(seat, v);
+        if a < FIRST_LARGE {
+            return self.write_arena(a, v);
+        }
+        self.write_large(a, v);
+    }
+
+    // The word at a place of the arenas is v from then on.
+    #[inline]
+    fn write_arena(&mut self, a: u64, v: u64)
+        requires held { IsTrue (has self.old.blocks a) }
+        requires among { (FIRST_ARENA ≤ a) × (a < FIRST_LARGE) }
+        ensures { self.new ≡ record self.old { blocks = with_word self.old.blocks a v } }
+    {
+        let distance = a - FIRST_ARENA;
+        let number = self.arena_number(distance);
+        let offset = distance - number * self.arena_words;
+        self.arenas[number as usize].write(offset as usize, v);
+    }
+
+    // The word at a place of the large blocks is v from then on.
+    fn write_large(&mut self, a: u64, v: u64)
+        requires held { IsTrue (has self.old.blocks a) }
+        requires among { FIRST_LARGE ≤ a }
+        ensures { self.new ≡ record self.old { blocks = with_word self.old.blocks a v } }
+    {
+        let index = large_index(&self.larges, a);
+        let large = &mut self.larges[index];
+        let offset = a - large.base();
+        large.write(offset as usize, v);
     }
 
     /// Copies n words to the places from `to` on. All are read as they were before.
