@@ -98,11 +98,7 @@ pub(crate) fn run_over(
 }
 
 /// Replays a script over a heap, where nothing fails. The heap stays as the run leaves it.
-pub(crate) fn run_on(
-    alloc: Global,
-    script: Vec<u8>,
-    heap: &mut Heap,
-) -> Result<Outcome, AllocError>
+pub(crate) fn run_on(alloc: Global, script: Vec<u8>, heap: &mut Heap) -> Result<Outcome, AllocError>
     requires { heap.old ≡ closed_heap }
 {
     run_heap(alloc, &["replay", "s"], script, SURE, heap)

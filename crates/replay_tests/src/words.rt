@@ -16,79 +16,207 @@ struct Run {
 
 /// An object of type 1 has 4 words, one of type 2 has 3 and can't refer, and one of type 3 has 12, more than a young one. Type 4 are arrays
 /// of references, with cards of 4 items, and type 5 weak objects. A page has 64 words, and a block of more than 16 is large.
-const SETUP: &[u8] = b"set young 8\nset small 16\nset page 64\nset card 4\ntype 1 fixed 1 1\ntype 2 fixed 1 0\ntype 3 fixed 9 1\n\
+const SETUP: &[u8] =
+    b"set young 8\nset small 16\nset page 64\nset card 4\ntype 1 fixed 1 1\ntype 2 fixed 1 0\ntype 3 fixed 9 1\n\
 type 4 refs\ntype 5 weak\n";
 
 /// Two young objects, of which the first has a home and the second is pinned, and an old small one and a large array that refer to them.
-const BIRTHS: &[u8] = b"new 0 1\nnew 1 2\nnew 2 3\nnew 3 4 14\nput 0 0 7\nlink 0 0 1\nput 1 0 9\nlink 2 0 0\nlink 3 13 1\nid 0\npin 1\n";
+const BIRTHS: &[u8] =
+    b"new 0 1\nnew 1 2\nnew 2 3\nnew 3 4 14\nput 0 0 7\nlink 0 0 1\nput 1 0 9\nlink 2 0 0\nlink 3 13 1\nid 0\npin 1\n";
 
 /// The flags are Track 2^16, HasShadow 2^18, Pinned 2^19, HasCards 2^20, CardsSet 2^21 and Shadow 2^23.
 const BORN: [Run; 7] = [
     // type 1, HasShadow; its birth, its number, the place of the second object
-    Run { place: 1, words: &[262_145, 1, 7, 5] },
+    Run {
+        place: 1,
+        words: &[262_145, 1, 7, 5],
+    },
     // type 2, Pinned; and nothing behind it yet
-    Run { place: 5, words: &[524_290, 2, 9, 0, 0] },
+    Run {
+        place: 5,
+        words: &[524_290, 2, 9, 0, 0],
+    },
     // the page of class 12: no chain, one live block, the first fresh one, no neighbours, with room
-    Run { place: 4_294_967_296, words: &[12, 0, 1, 4_294_967_316, 0, 0, 1, 0] },
+    Run {
+        place: 4_294_967_296,
+        words: &[12, 0, 1, 4_294_967_316, 0, 0, 1, 0],
+    },
     // type 3, remembered whole; it refers to the first object
-    Run { place: 4_294_967_304, words: &[3, 3, 0, 0, 0, 0, 0, 0, 0, 0, 0, 1, 0] },
+    Run {
+        place: 4_294_967_304,
+        words: &[3, 3, 0, 0, 0, 0, 0, 0, 0, 0, 0, 1, 0],
+    },
     // the page of class 4, and in it the home of the first object, Shadow
-    Run { place: 4_294_967_360, words: &[4, 0, 1, 4_294_967_372, 0, 0, 1, 0, 8_388_608, 0] },
+    Run {
+        place: 4_294_967_360,
+        words: &[4, 0, 1, 4_294_967_372, 0, 0, 1, 0, 8_388_608, 0],
+    },
     // the third page is unused
-    Run { place: 4_294_967_424, words: &[0] },
+    Run {
+        place: 4_294_967_424,
+        words: &[0],
+    },
     // type 4, Track, HasCards and CardsSet; 14 items, of which the last refers to the second object
-    Run { place: 1_099_511_627_776, words: &[3_211_268, 4, 14, 0, 0, 0, 0, 0, 0, 0, 0, 0, 0, 0, 0, 0, 5] },
+    Run {
+        place: 1_099_511_627_776,
+        words: &[3_211_268, 4, 14, 0, 0, 0, 0, 0, 0, 0, 0, 0, 0, 0, 0, 0, 5],
+    },
 ];
 
 /// The first object moves into its home. It is kept for the pinned one, and so is the array: whole, without Track and CardsSet. What the
 /// third object refers to is old now.
 const SETTLED: [Run; 6] = [
     // the mark of what left, and where to
-    Run { place: 1, words: &[18_446_744_073_709_551_615, 4_294_967_368] },
-    Run { place: 5, words: &[524_290, 2, 9] },
-    Run { place: 4_294_967_304, words: &[65_539, 3, 0, 0, 0, 0, 0, 0, 0, 0, 0, 4_294_967_368, 0] },
-    Run { place: 4_294_967_360, words: &[4, 0, 1, 4_294_967_372, 0, 0, 1, 0, 1, 1, 7, 5, 0] },
-    Run { place: 4_294_967_424, words: &[0] },
-    Run { place: 1_099_511_627_776, words: &[1_048_580, 4, 14, 0, 0, 0, 0, 0, 0, 0, 0, 0, 0, 0, 0, 0, 5] },
+    Run {
+        place: 1,
+        words: &[18_446_744_073_709_551_615, 4_294_967_368],
+    },
+    Run {
+        place: 5,
+        words: &[524_290, 2, 9],
+    },
+    Run {
+        place: 4_294_967_304,
+        words: &[65_539, 3, 0, 0, 0, 0, 0, 0, 0, 0, 0, 4_294_967_368, 0],
+    },
+    Run {
+        place: 4_294_967_360,
+        words: &[4, 0, 1, 4_294_967_372, 0, 0, 1, 0, 1, 1, 7, 5, 0],
+    },
+    Run {
+        place: 4_294_967_424,
+        words: &[0],
+    },
+    Run {
+        place: 1_099_511_627_776,
+        words: &[1_048_580, 4, 14, 0, 0, 0, 0, 0, 0, 0, 0, 0, 0, 0, 0, 0, 5],
+    },
 ];
 
 /// Births in the gaps around the pinned object: one before it, and the others behind it. The third of them has a home. The fourth is weak,
 /// and its target is the first. The second is left.
-const AROUND: &[u8] = b"minor\nnew 4 1\nnew 5 2\nnew 6 1\nput 4 0 21\nlink 4 0 0\nput 5 0 22\nput 6 0 23\nlink 6 0 4\nid 6\nweak 7 5 4\n\
+const AROUND: &[u8] =
+    b"minor\nnew 4 1\nnew 5 2\nnew 6 1\nput 4 0 21\nlink 4 0 0\nput 5 0 22\nput 6 0 23\nlink 6 0 4\nid 6\nweak 7 5 4\n\
 link 2 0 6\n";
 
 const BORN_AROUND: [Run; 4] = [
     // objects 5, 2, 6, 7 and 8, one behind another
-    Run { place: 1, words: &[1, 5, 21, 4_294_967_368, 524_290, 2, 9, 2, 6, 22, 262_145, 7, 23, 1, 5, 8, 1] },
+    Run {
+        place: 1,
+        words: &[
+            1,
+            5,
+            21,
+            4_294_967_368,
+            524_290,
+            2,
+            9,
+            2,
+            6,
+            22,
+            262_145,
+            7,
+            23,
+            1,
+            5,
+            8,
+            1,
+        ],
+    },
     // the third object is remembered once more
-    Run { place: 4_294_967_304, words: &[3, 3, 0, 0, 0, 0, 0, 0, 0, 0, 0, 11, 0] },
+    Run {
+        place: 4_294_967_304,
+        words: &[3, 3, 0, 0, 0, 0, 0, 0, 0, 0, 0, 11, 0],
+    },
     // the page of class 4 has a second home
-    Run { place: 4_294_967_360, words: &[4, 0, 2, 4_294_967_376, 0, 0, 1, 0, 1, 1, 7, 5, 8_388_608, 0] },
-    Run { place: 1_099_511_627_776, words: &[1_048_580, 4, 14, 0, 0, 0, 0, 0, 0, 0, 0, 0, 0, 0, 0, 0, 5] },
+    Run {
+        place: 4_294_967_360,
+        words: &[4, 0, 2, 4_294_967_376, 0, 0, 1, 0, 1, 1, 7, 5, 8_388_608, 0],
+    },
+    Run {
+        place: 1_099_511_627_776,
+        words: &[1_048_580, 4, 14, 0, 0, 0, 0, 0, 0, 0, 0, 0, 0, 0, 0, 0, 5],
+    },
 ];
 
 /// Nothing is pinned any more, and object 6 is left. All others settle, slot by slot.
 const AGAIN: &[u8] = b"unpin 1\ndrop 5\nminor\n";
 
 const SETTLED_AGAIN: [Run; 4] = [
-    Run { place: 4_294_967_304, words: &[65_539, 3, 0, 0, 0, 0, 0, 0, 0, 0, 0, 4_294_967_372, 0] },
+    Run {
+        place: 4_294_967_304,
+        words: &[65_539, 3, 0, 0, 0, 0, 0, 0, 0, 0, 0, 4_294_967_372, 0],
+    },
     // the page of class 4 with objects 1, 7 in its home, and 5
     Run {
         place: 4_294_967_360,
         words: &[
-            4, 0, 3, 4_294_967_380, 0, 0, 1, 0, 65_537, 1, 7, 4_294_967_432, 65_537, 7, 23, 4_294_967_376, 65_537, 5, 21,
-            4_294_967_368, 0,
+            4,
+            0,
+            3,
+            4_294_967_380,
+            0,
+            0,
+            1,
+            0,
+            65_537,
+            1,
+            7,
+            4_294_967_432,
+            65_537,
+            7,
+            23,
+            4_294_967_376,
+            65_537,
+            5,
+            21,
+            4_294_967_368,
+            0,
         ],
     },
     // a page of class 3 with objects 2 and 8
     Run {
         place: 4_294_967_424,
-        words: &[3, 0, 2, 4_294_967_438, 0, 0, 1, 0, 65_538, 2, 9, 65_541, 8, 4_294_967_376, 0],
+        words: &[
+            3,
+            0,
+            2,
+            4_294_967_438,
+            0,
+            0,
+            1,
+            0,
+            65_538,
+            2,
+            9,
+            65_541,
+            8,
+            4_294_967_376,
+            0,
+        ],
     },
     // Track and HasCards
     Run {
         place: 1_099_511_627_776,
-        words: &[1_114_116, 4, 14, 0, 0, 0, 0, 0, 0, 0, 0, 0, 0, 0, 0, 0, 4_294_967_432],
+        words: &[
+            1_114_116,
+            4,
+            14,
+            0,
+            0,
+            0,
+            0,
+            0,
+            0,
+            0,
+            0,
+            0,
+            0,
+            0,
+            0,
+            0,
+            4_294_967_432,
+        ],
     },
 ];
 
