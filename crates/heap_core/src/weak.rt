@@ -1,10 +1,11 @@
 //! Weak objects.
-ghost use Rattle.std.specs.Prelude.{◌≡◌, [], ◌∷◌, IsTrue, IfOk, OnOk, OnErr, Err};
+ghost use Rattle.std.specs.Prelude.{◌≡◌, [], ◌∷◌, IsTrue, IfOk, OnOk, OnErr, Err, Some};
+ghost use Rattle.type_table.specs.Table.{value_at};
 ghost use Rattle.text_model.specs.declared.command.Command.TheVariants.{NewWeak, Deref};
 ghost use Rattle.text_model.specs.declared.line.Line.TheVariants.{Derefed};
 ghost use Rattle.heap_core.specs.declared.fault.HeapFault.TheVariants.{Spent};
 ghost use Rattle.heap_core.specs.Bearing.{MayBearWeak, BearsWeakKnown};
-ghost use Rattle.heap_core.specs.Commands.{AreReady, CanDo, PartsDo, PartsKeep, Performs};
+ghost use Rattle.heap_core.specs.Commands.{AreReady, CanDo, PartsDo, PartsKeep, Performs, type_found};
 ghost use Rattle.heap_core.specs.Room.{EndsBirth};
 ghost use Rattle.heap_core.specs.HeapBirths.{AnswersBirth};
 ghost use Rattle.heap_core.specs.Retained.{BirthRetains};
@@ -17,7 +18,7 @@ use crate::heap::{Heap, State};
 use heap_parts::Parts;
 use std::alloc::AllocError;
 use text_model::Line;
-use type_table::words;
+use type_table::{TypeInfo, words};
 
 impl Heap {
     /// A weak object is born for a slot, and its line is appended. Its target is what another slot holds, which it does not
@@ -35,10 +36,29 @@ impl Heap {
         ensures retained { BirthRetains (NewWeak root type_id target) self.old self.new out.old.items out.new.items result }
         ensures spent { IsTrue self.old.is_spent → result ≡ Err Spent }
     {
+        let found = self.type_info(type_id);
+        self.new_weak_of(root, type_id, found, target, out)
+    }
+
+    /// The same where the type was found before, by `type_info`.
+    pub fn new_weak_of(
+        &mut self,
+        root: u32,
+        type_id: u16,
+        found: Option<TypeInfo>,
+        target: u32,
+        out: &mut Vec<Line>,
+    ) -> Result<(), HeapFault>
+        requires can { CanDo self.old (NewWeak root type_id target) }
+        requires found { found ≡ type_found self.old.parts type_id }
+        ensures answers { AnswersBirth (NewWeak root type_id target) self.old self.new out.old.items out.new.items result }
+        ensures retained { BirthRetains (NewWeak root type_id target) self.old self.new out.old.items out.new.items result }
+        ensures spent { IsTrue self.old.is_spent → result ≡ Err Spent }
+    {
         match &mut self.state {
             State::Started(parts) => {
                 let collector = lists_of(parts, &mut self.collector);
-                let ended = bear_weak(parts, collector, root, type_id, target, out);
+                let ended = bear_weak(parts, collector, root, type_id, found, target, out);
                 self.end_birth(ended)
             }
             State::Closed | State::Spent => Err(HeapFault::Spent),
@@ -61,26 +81,28 @@ impl Heap {
     }
 }
 
-/// Room is made for a weak object, which is then born for a slot. The lines of both are appended.
+/// Room is made for a weak object of a type that was found, which is then born for a slot. The lines of both are appended.
 fn bear_weak(
     parts: &mut Parts,
     collector: &mut Collector,
     root: u32,
     type_id: u16,
+    found: Option<TypeInfo>,
     target: u32,
     out: &mut Vec<Line>,
 ) -> Result<(), HeapFault>
-    requires { AreReady parts.old (NewWeak root type_id target) }
+    requires ready { AreReady parts.old (NewWeak root type_id target) }
+    requires found { found ≡ value_at parts.old.setup.types type_id }
     ensures { EndsBirth (NewWeak root type_id target) parts.old parts.new out.old.items out.new.items result }
 {
-    let Some(info) = parts.type_info(type_id) else {
+    let Some(info) = found else {
         return Err(HeapFault::OutOfMemory);
     };
     match make_room(parts, collector, words(info, 0), out) {
         Ok(()) => {}
         Err(fault) => return Err(fault),
     }
-    match bear_weak_in_room(parts, root, type_id, target, out) {
+    match bear_weak_in_room(parts, root, type_id, info, target, out) {
         Ok(()) => Ok(()),
         Err(_) => Err(HeapFault::OutOfMemory),
     }
@@ -92,10 +114,12 @@ fn bear_weak_in_room(
     parts: &mut Parts,
     root: u32,
     type_id: u16,
+    info: TypeInfo,
     target: u32,
     out: &mut Vec<Line>,
 ) -> Result<(), AllocError>
-    requires { MayBearWeak parts.old root type_id }
+    requires may { MayBearWeak parts.old root type_id }
+    requires known { value_at parts.old.setup.types type_id ≡ Some info }
     ensures bears { OnOk result (BearsWeakKnown parts.old parts.new root type_id target out.old.items out.new.items) }
     ensures err { OnErr result (PartsKeep parts.old parts.new) }
     ensures err_out { OnErr result (out.new.items ≡ out.old.items) }
@@ -104,9 +128,6 @@ fn bear_weak_in_room(
     if birth > LAST_BIRTH {
         return Err(AllocError);
     }
-    let Some(info) = parts.type_info(type_id) else {
-        return Err(AllocError);
-    };
     out.reserve(1)?;
     let place = parts.place(target);
     let old = parts.bear_weak(root, type_id, info, place)?;

@@ -1,14 +1,14 @@
 //! The commands that are not refused.
 ghost use Rattle.std.specs.Prelude.{◌≡◌, ◌<◌, false, IfErr, OnOk, OnErr, vec_len, vec_capacity};
 ghost use Rattle.heap_core.specs.declared.fault.HeapFault.TheVariants.{OutOfMemory};
-ghost use Rattle.heap_core.specs.Commands.{CanDo, Performs, Keeps};
+ghost use Rattle.heap_core.specs.Commands.{CanDo, Performs, Keeps, type_found};
 ghost use Rattle.session_core.specs.Commands.{may_collect, is_early, is_middle, is_no_struct};
-ghost use Rattle.session_core.specs.Finding.{found_for};
+ghost use Rattle.session_core.specs.Finding.{found_for, of_births};
 ghost use Rattle.session_core.specs.Standing.{KeepsFront};
 ghost use Rattle.session_core.specs.Ends.{EndsCommand};
 
 use heap_core::{Dec, Found, Heap, HeapFault};
-use store_model::{Command, Line};
+use store_model::{Command, Line, TypeInfo};
 
 /// Does a command that is not refused, with what was found for it, and appends its lines. Those of
 /// the collections before a birth that the limit refuses are appended too. Where memory runs out,
@@ -18,21 +18,25 @@ pub(crate) fn do_command(
     heap: &mut Heap,
     command: &Command,
     found: Option<Found>,
+    info: Option<TypeInfo>,
     out: &mut Vec<Line>,
 ) -> Result<(), HeapFault>
     requires can { CanDo heap.old command.now }
     requires found { found ≡ found_for heap.old command.now }
+    requires info { info ≡ of_births (type_found heap.old.parts) command.now }
     requires alive { heap.old.is_spent ≡ false }
     ensures { EndsCommand command.now heap.old heap.new out.old.items out.new.items result }
 {
     match *command {
-        Command::NewFixed { root, type_id } => heap.new_fixed(root, type_id, out),
-        Command::NewArray { root, type_id, len } => heap.new_array(root, type_id, len, out),
+        Command::NewFixed { root, type_id } => heap.new_fixed_of(root, type_id, info, out),
+        Command::NewArray { root, type_id, len } => {
+            heap.new_array_of(root, type_id, info, len, out)
+        }
         Command::NewWeak {
             root,
             type_id,
             target,
-        } => heap.new_weak(root, type_id, target, out),
+        } => heap.new_weak_of(root, type_id, info, target, out),
         Command::Minor => heap.minor(out),
         Command::Step => heap.step(out),
         Command::Collect => heap.collect(out),

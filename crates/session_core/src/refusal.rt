@@ -9,11 +9,12 @@ ghost use Rattle.store_model.specs.Checks.{first_reason, setting_checks, type_ch
 ghost use Rattle.store_model.specs.StructChecks.{weak_checks, unpin_checks, queue_checks, register_checks, link_checks, struct_checks};
 ghost use Rattle.store_model.specs.Refusal.{checks_in_range, command_checks};
 ghost use Rattle.session_core.specs.Standing.{IsPlaced, setup_of, seen_if, types_in, refusal_of};
-ghost use Rattle.session_core.specs.Finding.{kind_for, kind_by};
+ghost use Rattle.session_core.specs.Finding.{kind_for, kind_by, type_for, type_by};
 
 use crate::checks::{
-    copy_refusal, dec_refusal, found_refusal, inc_refusal, int_refusal, link_refusal,
-    queue_refusal, ref_refusal, slot_refusal, slots_refusal, struct_refusal, weak_refusal,
+    array_refusal, copy_refusal, dec_refusal, fixed_refusal, found_refusal, inc_refusal,
+    int_refusal, link_refusal, queue_refusal, ref_refusal, slot_refusal, slots_refusal,
+    struct_refusal, weak_refusal,
 };
 use crate::session::Session;
 use crate::settings::is_outside;
@@ -24,16 +25,23 @@ use type_table::MAX_TYPES;
 impl Session {
     /// The first reason for which the program refuses an item, if it does. `kind` tells of the object whose items it works on.
     #[tactic(auto, unfolding(store_model::specs::Refusal::refusal_seen))]
-    pub(crate) fn refusal(&self, heap: &Heap, item: &Item, kind: Option<Kind>) -> Option<Reason>
+    pub(crate) fn refusal(
+        &self,
+        heap: &Heap,
+        item: &Item,
+        kind: Option<Kind>,
+        info: Option<TypeInfo>,
+    ) -> Option<Reason>
         requires placed { IsPlaced self.now heap.now }
         requires kind { kind ≡ kind_by (seen_if self.now.types heap.now) item.now }
+        requires info { info ≡ type_by (setup_of self.now heap.now) item.now }
         ensures { result ≡ refusal_of self.now heap.now item.now }
     {
         match *item {
             Item::Blank => None,
             Item::Setting { name, value } => self.setting_refusal(name, value),
             Item::TypeDef { id, .. } => self.type_refusal(heap, id),
-            Item::Command(command) => self.command_refusal(heap, &command, kind),
+            Item::Command(command) => self.command_refusal(heap, &command, kind, info),
         }
     }
 
@@ -70,33 +78,45 @@ impl Session {
     }
 
     /// The first reason for which a command is refused, if it is.
-    fn command_refusal(&self, heap: &Heap, command: &Command, kind: Option<Kind>) -> Option<Reason>
+    fn command_refusal(
+        &self,
+        heap: &Heap,
+        command: &Command,
+        kind: Option<Kind>,
+        info: Option<TypeInfo>,
+    ) -> Option<Reason>
         requires placed { IsPlaced self.now heap.now }
         requires kind { kind ≡ kind_for (seen_if self.now.types heap.now) command.now }
+        requires info { info ≡ type_for (setup_of self.now heap.now) command.now }
         ensures { result ≡ first_reason (command_checks (setup_of self.now heap.now) (seen_if self.now.types heap.now) command.now) }
     {
         if command.is_above() {
             return Some(Reason::Range);
         }
-        self.refusal_in_range(heap, command, kind)
+        self.refusal_in_range(heap, command, kind, info)
     }
 
     /// The same for a command none of whose numbers is out of range.
-    fn refusal_in_range(&self, heap: &Heap, command: &Command, kind: Option<Kind>) -> Option<Reason>
+    fn refusal_in_range(
+        &self,
+        heap: &Heap,
+        command: &Command,
+        kind: Option<Kind>,
+        info: Option<TypeInfo>,
+    ) -> Option<Reason>
         requires placed { IsPlaced self.now heap.now }
         requires kind { kind ≡ kind_for (seen_if self.now.types heap.now) command.now }
+        requires info { info ≡ type_for (setup_of self.now heap.now) command.now }
         requires in_range { is_above command.now ≡ false }
         ensures { result ≡ first_reason (checks_in_range (setup_of self.now heap.now) (seen_if self.now.types heap.now) command.now) }
     {
         let roots = self.settings.roots;
         match *command {
-            Command::NewFixed { root, type_id } => self.fixed_refusal(heap, root, type_id),
-            Command::NewArray { root, type_id, .. } => self.array_refusal(heap, root, type_id),
-            Command::NewWeak {
-                root,
-                type_id,
-                target,
-            } => self.new_weak_refusal(heap, root, type_id, target),
+            Command::NewFixed { root, .. } => fixed_refusal(roots, root, info),
+            Command::NewArray { root, .. } => array_refusal(roots, root, info),
+            Command::NewWeak { root, target, .. } => {
+                self.new_weak_refusal(heap, root, info, target)
+            }
             Command::Put { root, item, .. } => self.item_refusal(root, kind, item),
             Command::Get { root, item } => self.item_refusal(root, kind, item),
             Command::Link { root, item, from } => self.reference_refusal(root, from, kind, item),
@@ -279,48 +299,18 @@ impl Session {
         struct_refusal(self.struct_state(heap, number))
     }
 
-    /// Of the birth of an object of a fixed type.
-    fn fixed_refusal(&self, heap: &Heap, root: u32, type_id: u16) -> Option<Reason>
-        requires { IsPlaced self.now heap.now }
-        ensures { result ≡ first_reason (slots_checks self.now.settings.roots (root ∷ [])
-            ++ born_checks (type_at (setup_of self.now heap.now) type_id) is_fixed_shape) }
-    {
-        if u64::from(root) >= self.settings.roots {
-            return Some(Reason::NoRoot);
-        }
-        let Some(info) = self.type_info(heap, type_id) else {
-            return Some(Reason::NoType);
-        };
-        match info.shape {
-            Shape::Fixed { .. } => None,
-            _ => Some(Reason::WrongShape),
-        }
-    }
-
-    /// Of the birth of an array.
-    fn array_refusal(&self, heap: &Heap, root: u32, type_id: u16) -> Option<Reason>
-        requires { IsPlaced self.now heap.now }
-        ensures { result ≡ first_reason (slots_checks self.now.settings.roots (root ∷ [])
-            ++ born_checks (type_at (setup_of self.now heap.now) type_id) is_array_shape) }
-    {
-        if u64::from(root) >= self.settings.roots {
-            return Some(Reason::NoRoot);
-        }
-        let Some(info) = self.type_info(heap, type_id) else {
-            return Some(Reason::NoType);
-        };
-        match info.shape {
-            Shape::IntArray | Shape::RefArray => None,
-            _ => Some(Reason::WrongShape),
-        }
-    }
-
     /// Of the birth of a weak object for what a slot holds.
-    fn new_weak_refusal(&self, heap: &Heap, root: u32, type_id: u16, target: u32) -> Option<Reason>
+    fn new_weak_refusal(
+        &self,
+        heap: &Heap,
+        root: u32,
+        found: Option<TypeInfo>,
+        target: u32,
+    ) -> Option<Reason>
         requires { IsPlaced self.now heap.now }
         ensures { result ≡ first_reason (slots_checks self.now.settings.roots (root ∷ target ∷ [])
             ++ (found_checks ((seen_if self.now.types heap.now).kind target)
-            ++ born_checks (type_at (setup_of self.now heap.now) type_id) is_weak_shape)) }
+            ++ born_checks found is_weak_shape)) }
     {
         if let Some(reason) = slots_refusal(self.settings.roots, root, target) {
             return Some(reason);
@@ -328,7 +318,7 @@ impl Session {
         if self.kind_in(heap, target).is_none() {
             return Some(Reason::NilRoot);
         }
-        let Some(info) = self.type_info(heap, type_id) else {
+        let Some(info) = found else {
             return Some(Reason::NoType);
         };
         match info.shape {

@@ -6,8 +6,8 @@ ghost use Rattle.store_model.specs.Progress.{Progress};
 ghost use Rattle.object_model.specs.Setup.{defaults};
 ghost use Rattle.heap_core.specs.declared.fault.HeapFault.TheVariants.{Spent, OutOfMemory as NoMemory};
 ghost use Rattle.session_core.specs.Seen.{SessionSeen};
-ghost use Rattle.session_core.specs.Finding.{found_for};
-ghost use Rattle.session_core.specs.Standing.{IsPlaced, StandsAt, Answers, Sets, Adds, Begins, fault_told, refusal_of};
+ghost use Rattle.session_core.specs.Finding.{found_for, type_for};
+ghost use Rattle.session_core.specs.Standing.{IsPlaced, StandsAt, Answers, Sets, Adds, Begins, fault_told, refusal_of, setup_of};
 
 use crate::commands::do_command;
 use crate::settings::with_setting;
@@ -131,7 +131,8 @@ impl Session {
         ensures answers { (at : Progress) → StandsAt self.old heap.old at → Answers at item.now self.new heap.new out.old.items out.new.items result }
     {
         let found = self.found(heap, item);
-        if let Some(reason) = self.refusal(heap, item, kind_found(found)) {
+        let info = self.type_by(heap, item);
+        if let Some(reason) = self.refusal(heap, item, kind_found(found), info) {
             return Err(RunFault::Malformed(reason));
         }
         match *item {
@@ -144,7 +145,7 @@ impl Session {
                 Ok(()) => Ok(()),
                 Err(_) => Err(RunFault::OutOfMemory),
             },
-            Item::Command(command) => self.command(heap, &command, found, out),
+            Item::Command(command) => self.command(heap, &command, found, info, out),
         }
     }
 
@@ -154,10 +155,12 @@ impl Session {
         heap: &mut Heap,
         command: &Command,
         found: Option<Found>,
+        info: Option<TypeInfo>,
         out: &mut Vec<Line>,
     ) -> Result<(), RunFault>
         requires placed { IsPlaced self.old heap.old }
         requires found { found ≡ found_for heap.old command.now }
+        requires info { info ≡ type_for (setup_of self.old heap.old) command.now }
         requires accepted { refusal_of self.old heap.old (CommandItem command.now) ≡ None }
         ensures { (at : Progress) → StandsAt self.old heap.old at →
             Answers at (CommandItem command.now) self.new heap.new out.old.items out.new.items result }
@@ -166,7 +169,7 @@ impl Session {
             Ok(()) => {}
             Err(fault) => return Err(run_fault(fault)),
         }
-        match do_command(heap, command, found, out) {
+        match do_command(heap, command, found, info, out) {
             Ok(()) => Ok(()),
             Err(fault) => Err(run_fault(fault)),
         }

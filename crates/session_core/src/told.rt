@@ -2,7 +2,7 @@
 ghost use Rattle.std.specs.Prelude.{◌≡◌, option_map};
 ghost use Rattle.object_model.specs.Setup.{type_at};
 ghost use Rattle.heap_core.specs.Found.{kind_of, found_in};
-ghost use Rattle.session_core.specs.Finding.{found_for, found_by, kind_for, kind_by};
+ghost use Rattle.session_core.specs.Finding.{found_for, found_by, kind_for, kind_by, type_for, type_by};
 ghost use Rattle.session_core.specs.Standing.{IsPlaced, setup_of, seen_if};
 
 use crate::session::Session;
@@ -11,12 +11,34 @@ use store_model::{Command, Item, Kind, StructState, TypeInfo};
 
 impl Session {
     /// The type of an id, if there is one.
-    pub(crate) fn type_info(&self, heap: &Heap, id: u16) -> Option<TypeInfo>
+    fn type_info(&self, heap: &Heap, id: u16) -> Option<TypeInfo>
         ensures { result ≡ type_at (setup_of self.now heap.now) id }
     {
         match &self.types {
             None => heap.type_info(id),
             Some(types) => types.get(id),
+        }
+    }
+
+    /// The type of which an item of the script asks for an object, if it is such a command and the type is there.
+    pub(crate) fn type_by(&self, heap: &Heap, item: &Item) -> Option<TypeInfo>
+        ensures { result ≡ type_by (setup_of self.now heap.now) item.now }
+    {
+        match *item {
+            Item::Command(command) => self.type_for(heap, &command),
+            _ => None,
+        }
+    }
+
+    /// The same of a command.
+    fn type_for(&self, heap: &Heap, command: &Command) -> Option<TypeInfo>
+        ensures { result ≡ type_for (setup_of self.now heap.now) command.now }
+    {
+        match *command {
+            Command::NewFixed { type_id, .. } => self.type_info(heap, type_id),
+            Command::NewArray { type_id, .. } => self.type_info(heap, type_id),
+            Command::NewWeak { type_id, .. } => self.type_info(heap, type_id),
+            _ => None,
         }
     }
 

@@ -1,6 +1,7 @@
 use Rattle.std.proofs.Common.{sym, ap, ◌∙◌, refl}
 use Rattle.text_model.specs.declared.item.Item.{Item}
-use Rattle.session_core.specs.Finding.{found_by}
+use Rattle.session_core.specs.Finding.{found_by, type_by}
+use Rattle.session_core.specs.Standing.{setup_of}
 use Rattle.session_core.proofs.Looks.{refusal_is}
 use Rattle.session_core.proofs.Items.{does_blank, setting_accepted, does_setting, does_type, leaves_item}
 use Rattle.session_core.proofs.session.Session.item.Goals as goal
@@ -49,3 +50,9 @@ refusal-requires-clause-kind c = c.kind_found.ensures ∙ c.found-found.ensures.
 
 pub command-requires-clause-found : goal.command-requires-clause-found
 command-requires-clause-found c = c.found-found.ensures.value ∙ ap (λ (item : Item). found_by c.args.heap.now item) c.in-Command.is
+
+pub refusal-requires-clause-info : goal.refusal-requires-clause-info
+refusal-requires-clause-info c = c.type_by-info.ensures
+
+pub command-requires-clause-info : goal.command-requires-clause-info
+command-requires-clause-info c = c.type_by-info.ensures ∙ ap (λ (item : Item). type_by (setup_of c.args.self.now c.args.heap.now) item) c.in-Command.is
