@@ -56,7 +56,10 @@ impl Heap {
         requires { IsStanding self.now }
         ensures { result ≡ is_some ((told_by self.now).kind root) }
     {
-        self.kind_in(root).is_some()
+        match &self.state {
+            State::Started(parts) => parts.place(root) != 0,
+            State::Closed | State::Spent => false,
+        }
     }
 
     /// The shape of the object in a slot.

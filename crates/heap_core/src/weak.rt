@@ -6,6 +6,7 @@ ghost use Rattle.text_model.specs.declared.line.Line.TheVariants.{Derefed};
 ghost use Rattle.heap_core.specs.declared.fault.HeapFault.TheVariants.{Spent};
 ghost use Rattle.heap_core.specs.Bearing.{MayBearWeak, BearsWeakKnown};
 ghost use Rattle.heap_core.specs.Commands.{AreReady, CanDo, PartsDo, PartsKeep, Performs, type_found};
+ghost use Rattle.heap_core.specs.Found.{found_of, found_in};
 ghost use Rattle.heap_core.specs.Room.{EndsBirth};
 ghost use Rattle.heap_core.specs.HeapBirths.{AnswersBirth};
 ghost use Rattle.heap_core.specs.Retained.{BirthRetains};
@@ -14,6 +15,7 @@ use crate::births::LAST_BIRTH;
 use crate::collecting::{Collector, make_room};
 use crate::collections::lists_of;
 use crate::fault::HeapFault;
+use crate::found::{Found, find, read_target};
 use crate::heap::{Heap, State};
 use heap_parts::Parts;
 use std::alloc::AllocError;
@@ -75,7 +77,30 @@ impl Heap {
         ensures err { OnErr result (self.new ≡ self.old) }
     {
         match &mut self.state {
-            State::Started(parts) => Ok(deref_weak(parts, to, root)),
+            State::Started(parts) => {
+                let found = find(parts, root);
+                Ok(deref_weak(parts, to, root, found))
+            }
+            State::Closed | State::Spent => Err(HeapFault::Spent),
+        }
+    }
+
+    /// As `deref`, with no further look at the weak object: `found` is what the call `found` answers for its slot now.
+    pub fn deref_found(
+        &mut self,
+        to: u32,
+        root: u32,
+        found: Option<Found>,
+    ) -> Result<Option<u64>, HeapFault>
+        requires can { CanDo self.old (Deref to root) }
+        requires found { found ≡ found_in self.old root }
+        ensures performs { IfOk result (λ birth. Performs self.old self.new (Deref to root) [] (Derefed birth ∷ [])) }
+        ensures spent { IsTrue self.old.is_spent → result ≡ Err Spent }
+        ensures cause { OnErr result (IsTrue self.old.is_spent) }
+        ensures err { OnErr result (self.new ≡ self.old) }
+    {
+        match &mut self.state {
+            State::Started(parts) => Ok(deref_weak(parts, to, root, found)),
             State::Closed | State::Spent => Err(HeapFault::Spent),
         }
     }
@@ -135,12 +160,16 @@ fn bear_weak_in_room(
     Ok(())
 }
 
-/// Puts the target of the weak object in a slot into a slot, and answers its birth.
-fn deref_weak(parts: &mut Parts, to: u32, root: u32) -> Option<u64>
-    requires { AreReady parts.old (Deref to root) }
+/// Puts the target of the weak object in a slot, which was found before, into a slot, and answers its birth.
+fn deref_weak(parts: &mut Parts, to: u32, root: u32, found: Option<Found>) -> Option<u64>
+    requires ready { AreReady parts.old (Deref to root) }
+    requires found { found ≡ found_of parts.old root }
     ensures { PartsDo parts.old parts.new (Deref to root) (Derefed result ∷ []) }
 {
-    let place = parts.target(root);
+    let Some(seen) = found else {
+        unreachable!();
+    };
+    let place = read_target(parts, seen);
     let birth = parts.birth_of(place);
     parts.set_slot(to, place);
     birth

@@ -29,7 +29,7 @@ use Rattle.heap_core.proofs.FoundCalls.{found-none}
 use Rattle.session_core.specs.declared.session.RunFault.{RunFault}
 use Rattle.session_core.specs.declared.session.RunFault.TheVariants.{OutOfMemory}
 use Rattle.session_core.specs.Blocks.{NoBlock, LeavesStore, LeavesOff, makes_blocks}
-use Rattle.session_core.specs.Finding.{of_fields, found_for, of_births, type_for}
+use Rattle.session_core.specs.Finding.{of_fields, of_sources, found_for, source_for, of_births, type_for}
 use Rattle.session_core.specs.Seen.{SessionSeen}
 use Rattle.session_core.specs.Standing.{IsStarted, HasHeap, HasStore, StandsAt, IsPlaced, DoesItem, KeepsFront, Answers, Sets, Adds, Begins, types_in, table_of, seen_if, setup_of, refusal_of}
 use Rattle.session_core.proofs.Passing.{passed}
@@ -197,6 +197,10 @@ setup_same session mid heap started b =
     ap (λ (h : HeapSeen). table_of h.parts) (sym b.has_heap.is) ∙ b.table in
     let same : b.has_heap.parts.setup ≡ setup_of session heap = λ i. record { settings = b.has_heap.settings_are i; types = types i } in
     same
+
+pub source_begun : (session mid : SessionSeen) (heap started : HeapSeen) (command : Command) → Begins session mid heap started
+    → source_for started command ≡ source_for heap command
+source_begun session mid heap started command b = λ i. of_sources (λ root. b.founds root i) command
 
 -- the type that was found for a birth is that of the heap that was started
 pub type_begun : (session mid : SessionSeen) (heap started : HeapSeen) (command : Command) → Begins session mid heap started

@@ -2,7 +2,7 @@
 ghost use Rattle.std.specs.Prelude.{◌≡◌, [], ◌∷◌, ◌++◌, nat_le};
 ghost use Rattle.object_model.specs.Shapes.{holds_refs, is_fixed_shape, is_array_shape};
 ghost use Rattle.text_model.specs.declared.item.Reason.TheVariants as reasons;
-ghost use Rattle.store_model.specs.Checks.{first_reason, slots_checks, found_checks, born_checks, int_checks, ref_checks, copy_checks};
+ghost use Rattle.store_model.specs.Checks.{first_reason, slots_checks, born_checks, int_checks, ref_checks, copy_checks};
 ghost use Rattle.store_model.specs.StructChecks.{weak_checks, queue_checks, link_checks, struct_checks, inc_checks, dec_checks};
 
 use store_model::{Kind, Reason, Shape, StructState, TypeInfo};
@@ -59,16 +59,6 @@ pub(crate) fn array_refusal(roots: u64, root: u32, found: Option<TypeInfo>) -> O
     match info.shape {
         Shape::IntArray | Shape::RefArray => None,
         _ => Some(Reason::WrongShape),
-    }
-}
-
-/// Of what a slot holds, which must be something.
-pub(crate) fn found_refusal(found: Option<Kind>) -> Option<Reason>
-    ensures { result ≡ first_reason (found_checks found) }
-{
-    match found {
-        None => Some(Reason::NilRoot),
-        Some(_) => None,
     }
 }
 

@@ -1,4 +1,7 @@
+use Rattle.std.proofs.Common.{ap, ◌∙◌}
 use Rattle.text_model.specs.declared.command.Command.TheVariants.{NewWeak}
+use Rattle.heap_core.specs.Heap.{HeapSeen}
+use Rattle.heap_core.specs.Commands.{type_found}
 use Rattle.heap_core.specs.declared.heap.State.TheVariants.{Started}
 use Rattle.heap_core.proofs.Calls.{in_state}
 use Rattle.heap_core.proofs.CollectingCalls.{answers_birth}
@@ -17,4 +20,6 @@ returns-in-Started-clause-retained c =
     c.bear_weak-ended.result c.end_birth.result (in_state c.args.self.now c.self.inside.state (Started c.in-Started.parts) c.self.view_is c.in-Started.is) c.bear_weak-ended.ensures c.end_birth.ensures)
 
 pub bear_weak-ended-requires-clause-found : goal.bear_weak-ended-requires-clause-found
-bear_weak-ended-requires-clause-found c = ?
+bear_weak-ended-requires-clause-found c =
+    c.requires.found ∙ ap (λ (heap : HeapSeen). type_found heap.parts c.args.type_id)
+    (in_state c.args.self.now c.self.inside.state (Started c.in-Started.parts) c.self.view_is c.in-Started.is)
