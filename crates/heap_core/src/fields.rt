@@ -175,9 +175,7 @@ impl Heap {
         ensures spent { IsTrue self.old.is_spent → result ≡ Err Spent }
     {
         match &mut self.state {
-            State::Started(parts) => {
-                Ok(copy_items(parts, root, found, i, from, source, j, n)?)
-            }
+            State::Started(parts) => { Ok(copy_items(parts, root, found, i, from, source, j, n)?) }
             State::Closed | State::Spent => Err(HeapFault::Spent),
         }
     }

@@ -238,6 +238,32 @@ fn missing(alloc: Global, heap: &Heap, runs: &[Run]) -> Result<Vec<u64>, AllocEr
     Ok(places)
 }
 
+/// How many of so many words from a place on are not 0.
+fn count_words(heap: &Heap, place: u64, words: u64) -> usize {
+    (place..place.saturating_add(words))
+        .filter(|at| heap.word(*at).is_some_and(|word| word != 0))
+        .count()
+}
+
+/// How many words are not 0 behind the births: of the nursery, and of the first arena.
+fn words_born(alloc: Global, heap: &mut Heap) -> Result<(usize, usize), AllocError>
+    requires { heap.old ≡ closed_heap }
+{
+    let mut script = Vec::from_slice(alloc, SETUP)?;
+    script.extend_from_slice(BIRTHS)?;
+    run_on(alloc, script, heap)?;
+    Ok((
+        count_words(heap, 1, 4096),
+        count_words(heap, 4_294_967_296, 2048),
+    ))
+}
+
+/// The same of a heap of its own.
+fn words_of_own(alloc: Global) -> Result<(usize, usize), AllocError> {
+    let mut heap = Heap::closed();
+    words_born(alloc, &mut heap)
+}
+
 /// Runs a script of these pieces over a heap, and answers which of the runs of words do not stand there then.
 fn missing_behind(
     alloc: Global,
@@ -271,6 +297,15 @@ fn births_in_words(rt: HostRuntime) -> Result<(), Fail> {
     let (status, places) = missing_after(rt.alloc(), &[BIRTHS], &BORN)?;
     assert_eq!(rt; status, Status::Done);
     assert_eq!(rt; places.as_slice(), [].as_slice());
+    Ok(())
+}
+
+// And nothing stands anywhere else.
+#[test]
+fn births_write_nothing_else(rt: HostRuntime) -> Result<(), Fail> {
+    let (young, old) = words_of_own(rt.alloc())?;
+    assert_eq!(rt; young, 7);
+    assert_eq!(rt; old, 12);
     Ok(())
 }
 
