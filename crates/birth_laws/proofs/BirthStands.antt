@@ -18,7 +18,7 @@ use Rattle.object_view.proofs.WordLaws.{updated-here, updated-other}
 use Rattle.object_model.proofs.Members.{is_in-head, is_in-tail, is_in-append, is_in-before, is_in-last, map-same, in-left, in-right, in-either, filter-agree}
 use Rattle.object_view.proofs.LayoutLaws.{info_at-same}
 use Rattle.old_space.specs.declared.Old.{Old}
-use Rattle.old_space.specs.HasBlocks.{greatest_small}
+use Rattle.old_space.specs.HasBlocks.{greatest_small, page_size}
 use Rattle.text_model.specs.declared.line.Phase.{Phase}
 use Rattle.text_model.specs.declared.line.Phase.TheVariants.{Scanning, Marking, Sweeping, Finalizing}
 use Rattle.object_model.specs.Shapes.{is_weak_shape}
@@ -225,7 +225,7 @@ pub birth_stands : (heap : HeapParts) (store : Store) (s : PartsStandFor heap st
     → HoldsBlocks old_blocks memory heap.setup.types (word_at memory.blocks) (home_in heap) (young_places (s.places ++ a ∷ [])) (old_places (s.places ++ a ∷ [])) s.husks [] s.waiting
     → IsUngapped heap.gapped nursery → (is_young a ≡ false → is_waiting heap.setup.settings.page s.waiting a ≡ false)
     → (nursery.words ≡ heap.nursery.words) × (nursery.pins ≡ heap.nursery.pins)
-    → (memory.arena_words ≡ heap.memory.arena_words) × (greatest_small old_blocks ≡ greatest_small heap.old_blocks) × (old_blocks.pages.page ≡ heap.old_blocks.pages.page)
+    → (memory.arena_words ≡ heap.memory.arena_words) × (greatest_small old_blocks ≡ greatest_small heap.old_blocks) × (page_size old_blocks ≡ page_size heap.old_blocks)
     → heap.unsettled + heap.old_words + words_in info.shape request.items ≤ heap.setup.settings.limit → heap.next + 1 < 2 ^ 63
     → ((t : ℕ) → request.target ≡ Some t → IsTrue (is_kept store.kept t))
     → PartsStandFor (with_born heap memory nursery old_blocks a request.slot info (words_in info.shape request.items)) (with_birth (not (is_young a)) store info request)

@@ -18,7 +18,7 @@ use Rattle.object_model.proofs.Members.{is_in-append, is_in-named}
 use Rattle.object_view.proofs.LayoutLaws.{laid_out}
 use Rattle.object_view.proofs.NewbornLaws.{BornAt, IsFree, IsHeaderOf, born-is, born-info, born-layout, born-first, birth_holds, free-unmet, request-names, more-pointers, length-born_words}
 use Rattle.object_view.proofs.WholeLaws.{born-written, has_object-born}
-use Rattle.old_space.specs.HasBlocks.{HasBlocks, IsBlock, greatest_small}
+use Rattle.old_space.specs.HasBlocks.{HasBlocks, IsBlock, greatest_small, page_size}
 use Rattle.old_space.specs.declared.Old.{Old}
 use Rattle.old_space.proofs.JoinLaws.{HasBlocks-blocks, HasBlocks-apart, HasBlocks_permuted}
 use Rattle.object_model.specs.Layout.{Layout, layout_of}
@@ -51,7 +51,7 @@ pub record IsOldBirth (heap : HeapParts) (store : Store) (s : PartsStandFor heap
   pub elsewhere : is_waiting heap.setup.settings.page s.waiting a ≡ false
   pub type : head % 65536 ≡ type_id
   pub first : IsBornOld heap.setup.settings.card info (layout_of info.shape a items).ref_count head
-  pub made : (memory.arena_words ≡ heap.memory.arena_words) × (greatest_small old_blocks ≡ greatest_small heap.old_blocks) × (old_blocks.pages.page ≡ heap.old_blocks.pages.page)
+  pub made : (memory.arena_words ≡ heap.memory.arena_words) × (greatest_small old_blocks ≡ greatest_small heap.old_blocks) × (page_size old_blocks ≡ page_size heap.old_blocks)
   pub limit : heap.unsettled + heap.old_words + words_in info.shape items ≤ heap.setup.settings.limit
   pub next : heap.next + 1 < 2 ^ 63
 

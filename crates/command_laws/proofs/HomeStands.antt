@@ -7,7 +7,7 @@ use Rattle.type_table.specs.Table.{value_at, with_value}
 use Rattle.type_table.proofs.TableLaws.{value_at-with_value}
 use Rattle.heap_space.specs.Memory.{Memory}
 use Rattle.heap_space.specs.Extents.{Extent, Each, IsApart}
-use Rattle.old_space.specs.HasBlocks.{IsBlock, greatest_small}
+use Rattle.old_space.specs.HasBlocks.{IsBlock, greatest_small, page_size}
 use Rattle.old_space.specs.declared.Old.{Old}
 use Rattle.old_space.proofs.JoinLaws.{HasBlocks-blocks, HasBlocks-apart}
 use Rattle.store_model.specs.Store.{Store}
@@ -106,7 +106,7 @@ tell_settled_stands heap store p s t none =
 -- Where memory was wanting, no block is taken, and the heap stands for the same stores.
 pub none_stands : (heap : HeapParts) (store : Store) (memory : Memory) (old_blocks : Old) (s : PartsStandFor heap store)
     → MemoryKeeps heap.setup.types heap.memory memory heap.nursery old_blocks (home_in heap) [] s.places s.husks s.waiting
-    → (memory.arena_words ≡ heap.memory.arena_words) × (greatest_small old_blocks ≡ greatest_small heap.old_blocks) × (old_blocks.pages.page ≡ heap.old_blocks.pages.page)
+    → (memory.arena_words ≡ heap.memory.arena_words) × (greatest_small old_blocks ≡ greatest_small heap.old_blocks) × (page_size old_blocks ≡ page_size heap.old_blocks)
     → PartsStandFor (record heap { memory = memory; old_blocks = old_blocks }) store
 none_stands heap store memory old_blocks s keeps made =
     let same = memory_same s.words keeps in record {

@@ -7,7 +7,7 @@ use Rattle.std.proofs.lemmas.List.Sorted.{IsPermutation-refl}
 use lib.ListN.{length-replicate}
 use Rattle.heap_space.specs.Places.{lies_in_one, zeros_at}
 use Rattle.heap_space.specs.Memory.{fresh_memory}
-use Rattle.old_space.specs.HasBlocks.{HasBlocks, greatest_small}
+use Rattle.old_space.specs.HasBlocks.{HasBlocks, greatest_small, page_size}
 use Rattle.old_space.specs.declared.Old.{Old}
 use Rattle.type_table.specs.declared.info.TypeInfo.{TypeInfo}
 use Rattle.type_table.specs.Table.{Table}
@@ -39,7 +39,7 @@ no-home : (p at : ℕ) {A : Type 0} → map.get (map.empty {X = ℕ} {R = nat_cm
 no-home p at e = let n : map.get (map.empty {X = ℕ} {R = nat_cmp}) p ≡ None = map.get-empty nat_cmp p in absurd (let no : ⊥ = cc in no)
 
 started-parts : (settings : Settings) (types : Table TypeInfo) (old_blocks : Old) → AreInRange settings
-    → HasBlocks old_blocks (fresh_memory settings.nursery (settings.arena * settings.page)) [] [] → greatest_small old_blocks ≡ small_words settings → old_blocks.pages.page ≡ settings.page
+    → HasBlocks old_blocks (fresh_memory settings.nursery (settings.arena * settings.page)) [] [] → greatest_small old_blocks ≡ small_words settings → page_size old_blocks ≡ settings.page
     → PartsStandFor (started_parts settings types old_blocks) (empty_store settings)
 started-parts settings types old_blocks ranges empty small page =
     let heap : HeapParts = started_parts settings types old_blocks in

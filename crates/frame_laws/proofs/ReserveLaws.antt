@@ -24,7 +24,7 @@ use Rattle.object_model.proofs.Members.{is_in-head, is_in-tail, is_in-cases, is_
 use Rattle.object_view.proofs.LayoutLaws.{laid_out, info_at-same}
 use Rattle.object_view.proofs.SpaceLaws.{word_at-written, lies-at}
 use Rattle.object_view.proofs.FrameLaws.{header_holds}
-use Rattle.old_space.specs.HasBlocks.{IsBlock, greatest_small}
+use Rattle.old_space.specs.HasBlocks.{IsBlock, greatest_small, page_size}
 use Rattle.old_space.specs.declared.Old.{Old}
 use Rattle.old_space.proofs.JoinLaws.{HasBlocks_permuted, HasBlocks-apart, HasBlocks-blocks}
 use Rattle.object_model.specs.Layout.{Layout}
@@ -107,7 +107,7 @@ pub reserve_stands : (heap : HeapParts) (store : Store) (s : PartsStandFor heap 
     → MemoryKeeps heap.setup.types heap.memory memory heap.nursery old_blocks (home_in heap) ((at, words_at heap.setup.types (word_in heap) p) ∷ []) s.places s.husks s.waiting
     → IsTrue (is_in p (young_places s.places)) → home_in heap p ≡ None → IsShadowHeader (word_at memory.blocks at)
     → x % 65536 ≡ word_in heap p % 65536 → IsYoungHeader x → has_flag x HasShadow ≡ true → has_flag x Pinned ≡ has_flag (word_in heap p) Pinned
-    → (memory.arena_words ≡ heap.memory.arena_words) × (greatest_small old_blocks ≡ greatest_small heap.old_blocks) × (old_blocks.pages.page ≡ heap.old_blocks.pages.page)
+    → (memory.arena_words ≡ heap.memory.arena_words) × (greatest_small old_blocks ≡ greatest_small heap.old_blocks) × (page_size old_blocks ≡ page_size heap.old_blocks)
     → IsSound heap.setup.settings (record store { homes = with_value store.homes (s.name p) at })
     → PartsStandFor (with_home heap memory old_blocks p x at) (record store { homes = with_value store.homes (s.name p) at })
 reserve_stands heap store s memory old_blocks p x at keeps t none shadow type young shadowed pinned made sound =

@@ -49,6 +49,7 @@ use Rattle.birth_laws.proofs.SpareLaws.{take_keeps}
 use Rattle.frame_laws.proofs.TakeLaws.{MemoryKeeps}
 use Rattle.command_laws.proofs.HomeStands.{none_stands}
 use Rattle.heap_core.specs.Commands.{PartsKeep}
+use Rattle.old_space.specs.HasBlocks.{page_size}
 
 -- what a birth needs beside room, of an object that is weak or not
 pub record CanBear (weak : Bool) (heap : HeapParts) (type_id : ℕ) (info : TypeInfo) (items : ℕ) : Type 0 where
@@ -149,7 +150,7 @@ born_old card type_id a items info small =
     }
 
 -- a unit that was told not to wait does not
-not-waiting : (page : ℕ) (old_blocks : Old) (waiting : List ℕ) (place : ℕ) → old_blocks.pages.page ≡ page → IsElsewhere old_blocks waiting place
+not-waiting : (page : ℕ) (old_blocks : Old) (waiting : List ℕ) (place : ℕ) → page_size old_blocks ≡ page → IsElsewhere old_blocks waiting place
     → is_waiting page waiting place ≡ false
 not-waiting page old_blocks waiting place is elsewhere = elim (cases_Bool (is_waiting page waiting place)) [
   | inl waits ↦

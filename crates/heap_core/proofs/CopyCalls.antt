@@ -49,10 +49,10 @@ copy_can heap root item from oi n ready high =
     can_remember s (place_in heap root) item n (old_in_slot heap ready.standing.store root s has.full high) (copy_few heap root item from oi n ready)
 
 -- a slot still leads to a whole object, whose parts lie where they lay
-record SlotKeeps (heap new : HeapParts) (root : ℕ) : Type 0 where
-  full : place_in new root ≢ 0
-  object : HasObjectIn new root
-  layout : layout_in new root ≡ layout_in heap root
+pub record SlotKeeps (heap new : HeapParts) (root : ℕ) : Type 0 where
+  pub full : place_in new root ≢ 0
+  pub object : HasObjectIn new root
+  pub layout : layout_in new root ≡ layout_in heap root
 
 -- so it does after items of a settled object were remembered
 slot_after : (heap new : HeapParts) (store : Store) (p item n root : ℕ) (s : PartsStandFor heap store) → IsTrue (is_in p (old_places s.places))
@@ -69,13 +69,23 @@ slot_after heap new store p item n root s t r full object =
       layout = ap (λ (q : ℕ). layout_at new.setup.types (word_in new) q) same ∙ layout_remembered s p item n t r (place_in heap root) (in_slot heap store root s full).there;
     }
 
+-- both slots of a copy do
+pub copy_slots_after : (heap new : HeapParts) (root item from oi n : ℕ) → AreReady heap (CopyRefs root item from oi n) → 4294967296 ≤ place_in heap root
+    → RemembersItems heap new (place_in heap root) item n → SlotKeeps heap new root × SlotKeeps heap new from
+copy_slots_after heap new root item from oi n ready high r =
+    let has = copy_ready heap root item from oi n ready in let s = ready.standing.stands in let store = ready.standing.store in let p : ℕ = place_in heap root in
+    let t = old_in_slot heap store root s has.full high in (
+      slot_after heap new store p item n root s t r has.full has.object,
+      slot_after heap new store p item n from s t r has.from_full has.from_object,
+    )
+
 pub copy_ready_after : (heap new : HeapParts) (root item from oi n : ℕ) → AreReady heap (CopyRefs root item from oi n) → 4294967296 ≤ place_in heap root
     → RemembersItems heap new (place_in heap root) item n → HasCopy new root item from oi n
 copy_ready_after heap new root item from oi n ready high r =
-    let has = copy_ready heap root item from oi n ready in let s = ready.standing.stands in let store = ready.standing.store in let p : ℕ = place_in heap root in
-    let t = old_in_slot heap store root s has.full high in
-    let target = slot_after heap new store p item n root s t r has.full has.object in
-    let source = slot_after heap new store p item n from s t r has.from_full has.from_object in record {
+    let has = copy_ready heap root item from oi n ready in
+    let after = copy_slots_after heap new root item from oi n ready high r in
+    let target = after.0 in
+    let source = after.1 in record {
       full = target.full;
       from_full = source.full;
       object = target.object;

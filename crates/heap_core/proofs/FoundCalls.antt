@@ -1,5 +1,6 @@
 -- What calls do with an object that was found before.
 use Rattle.std.proofs.Common.{◌≡◌, ◌≢◌, ℕ, ◌+◌, ◌<◌, ◌≤◌, Option, Some, None, option_map, refl, sym, ap, ◌∙◌, subst, inl, inr, arith}
+use Rattle.std.specs.Prelude.{is_some, not, ◌==◌}
 use Rattle.std.proofs.lemmas.Bool.Decides.{eqb_tells}
 use Rattle.type_table.specs.declared.info.TypeInfo.{TypeInfo}
 use Rattle.type_table.specs.Table.{Table}
@@ -11,7 +12,8 @@ use Rattle.heap_space.specs.Order.{IsInOrder}
 use Rattle.object_view.specs.declared.fields.ObjView.{ObjView}
 use Rattle.object_view.specs.Views.{HasObject, HasView, view_of, view_at}
 use Rattle.object_view.proofs.ViewLaws.{has_view-of}
-use Rattle.text_model.specs.declared.command.Command.TheVariants.{Put, Get, Link, Load}
+use Rattle.weak_lists.proofs.TargetLaws.{target-item}
+use Rattle.text_model.specs.declared.command.Command.TheVariants.{Put, Get, Link, Load, Deref}
 use Rattle.heap_parts.specs.Parts.{HeapParts, word_in, place_in}
 use Rattle.heap_parts.specs.Told.{kind_at}
 use Rattle.heap_parts.specs.Effects.{layout_in}
@@ -20,6 +22,7 @@ use Rattle.heap_core.specs.declared.found.Found.{Found}
 use Rattle.heap_core.specs.Found.{kind_of, found_from, found_at, found_of, IsFound}
 use Rattle.heap_core.specs.Commands.{AreReady}
 use Rattle.heap_core.proofs.Ready.{HasInt, HasRef, put_ready, get_ready, link_ready, load_ready}
+use Rattle.heap_core.proofs.WeakReady.{deref_ready}
 use Rattle.heap_core.proofs.BarrierCalls.{link_ready_after, link_layout_after}
 
 -- the parts of an object that lie so are in the memory
@@ -58,6 +61,13 @@ found-none types word place none = elim (eqb_tells place 0) [
   | inr e ↦ absurd (let some : kind_at types word place ≡ Some (kind_of (found_from types word place)) = rw e.0 refl in let no : ⊥ = cc in no)
 ]
 
+-- a place has a kind just where it is one
+pub full-kind : (types : Table TypeInfo) (word : ℕ → ℕ) (place : ℕ) → is_some (kind_at types word place) ≡ not (place == 0)
+full-kind types word place = elim (eqb_tells place 0) [
+  | inl e ↦ rw e.0 refl
+  | inr e ↦ rw e.0 refl
+]
+
 -- the kind of what is found at a place is what is told of it
 pub found-kind : (types : Table TypeInfo) (word : ℕ → ℕ) (place : ℕ) → option_map kind_of (found_at types word place) ≡ kind_at types word place
 found-kind types word place = elim (eqb_tells place 0) [
@@ -80,14 +90,14 @@ sees-from heap root seen is object =
 same-some : (found : Option Found) (a b : Found) → found ≡ Some a → found ≡ Some b → a ≡ b
 same-some found a b is at = cc
 
-sees : (heap : HeapParts) (root : ℕ) (found : Option Found) (seen : Found) → found ≡ found_of heap root → found ≡ Some seen → place_in heap root ≢ 0
+pub sees : (heap : HeapParts) (root : ℕ) (found : Option Found) (seen : Found) → found ≡ found_of heap root → found ≡ Some seen → place_in heap root ≢ 0
     → HasObject heap.memory heap.setup.types (place_in heap root) → Sees heap root seen
 sees heap root found seen is some full object =
     sees-from heap root seen
     (same-some found seen (found_from heap.setup.types (word_in heap) (place_in heap root)) some (is ∙ found-is heap.setup.types (word_in heap) (place_in heap root) full)) object
 
 -- the object of a command that is not refused was found
-finds : (heap : HeapParts) (root : ℕ) (found : Option Found) → found ≡ found_of heap root → place_in heap root ≢ 0 → found ≢ None
+pub finds : (heap : HeapParts) (root : ℕ) (found : Option Found) → found ≡ found_of heap root → place_in heap root ≢ 0 → found ≢ None
 finds heap root found is full none =
     let some : found ≡ Some (found_from heap.setup.types (word_in heap) (place_in heap root)) =
     is ∙ found-is heap.setup.types (word_in heap) (place_in heap root) full in
@@ -138,6 +148,18 @@ load_sees heap to root item found seen ready is some =
     let has = (load_ready heap to root item ready).1 in
     let s = sees heap root found seen is some has.full has.object.object in
     (s, ref-in heap root item seen s has)
+
+pub deref_finds : (heap : HeapParts) (to root : ℕ) (found : Option Found) → AreReady heap (Deref to root) → found ≡ found_of heap root → found ≢ None
+deref_finds heap to root found ready is = finds heap root found is (deref_ready heap to root ready).1.full
+
+pub deref_sees : (heap : HeapParts) (to root : ℕ) (found : Option Found) (seen : Found) → AreReady heap (Deref to root) → found ≡ found_of heap root
+    → found ≡ Some seen → Sees heap root seen × (seen.view.ref_start < seen.place + seen.view.words)
+deref_sees heap to root found seen ready is some =
+    let has = (deref_ready heap to root ready).1 in
+    let s = sees heap root found seen is some has.full has.object.object in
+    let place : seen.place ≡ place_in heap root = ap (λ (f : Found). f.place) s.is in
+    let inside = target-item heap.setup.types (word_in heap) (place_in heap root) seen.view (ap (λ (f : Found). f.view) s.is) has.weak in
+    (s, omega (arith, place, inside))
 
 -- what was found of a settled object is so still after its item was remembered
 pub found_after : (heap new : HeapParts) (root item from : ℕ) (seen : Found) → AreReady heap (Link root item from) → Sees heap root seen → 4294967296 ≤ place_in heap root

@@ -10,6 +10,7 @@ pub mod BarrierCalls
 pub mod FoundCalls
 pub mod CopyReady
 pub mod CopyCalls
+pub mod CopyFound
 pub mod TellerLaws
 pub mod LookLaws
 pub mod BirthLaws

@@ -41,6 +41,11 @@ may_in_room {heap = heap} {new = new} root type_id items n info may known is fou
           (subst (HasRoomFor new) (is ∙ ap (λ (k : TypeInfo). words_in k.shape items) same) found.room);
     }
 
+-- the type is still there
+pub known_in_room : {heap new : HeapParts} {before after : List Line} (type_id n : ℕ) (info : TypeInfo) → value_at heap.setup.types type_id ≡ Some info
+    → FindsRoom n heap new before after → value_at new.setup.types type_id ≡ Some info
+known_in_room type_id n info known found = ap (λ (setup : Setup). value_at setup.types type_id) found.made.setup ∙ known
+
 -- and a weak one
 pub may_be_weak : {heap new : HeapParts} {before after : List Line} (root type_id target n : ℕ) (info : TypeInfo) → AreReady heap (NewWeak root type_id target)
     → value_at heap.setup.types type_id ≡ Some info → n ≡ words_in info.shape 0 → FindsRoom n heap new before after → MayBearWeak new root type_id

@@ -3,18 +3,18 @@ use Rattle.std.proofs.Common.{◌≡◌, ℕ, ◌<◌, Bool, true, false, List, 
 use Rattle.std.specs.Prelude.{IsSome}
 use Rattle.type_table.specs.declared.info.TypeInfo.{TypeInfo}
 use Rattle.type_table.specs.declared.info.Shape.TheVariants.{Fixed}
-use Rattle.type_table.specs.Table.{Table, value_at, with_value}
+use Rattle.type_table.specs.Table.{Table, value_at}
 use Rattle.type_table.specs.Words.{words_in}
 use Rattle.object_model.specs.declared.kind.Kind.{Kind}
 use Rattle.object_model.specs.Newborn.{Request}
 use Rattle.object_model.specs.ObjectWords.{info_or_weak}
 use Rattle.object_model.specs.Setup.{Setup, defaults, young_words, type_at}
 use Rattle.text_model.specs.declared.command.Command.{Command}
-use Rattle.text_model.specs.declared.command.Command.TheVariants.{NewFixed, NewArray, Put, Get, Link, Load, DropRoot, Ident, Pin, Collect}
+use Rattle.text_model.specs.declared.command.Command.TheVariants.{NewFixed, Put, Get, Link, Load, DropRoot, Collect}
 use Rattle.text_model.specs.declared.line.Line.{Line}
 use Rattle.text_model.specs.Range.{is_above}
 use Rattle.store_model.specs.Birth.{with_birth}
-use Rattle.store_model.specs.Births.{Births, BirthWithRoomOf, fixed_request, array_request}
+use Rattle.store_model.specs.Births.{Births, BirthWithRoomOf, fixed_request}
 use Rattle.store_model.specs.Checks.{first_reason}
 use Rattle.store_model.specs.Collections.{needs_block, exceeds_limit}
 use Rattle.store_model.specs.Look.{Look, look}
@@ -26,7 +26,7 @@ use Rattle.heap_parts.specs.Parts.{HeapParts, word_in, place_in}
 use Rattle.heap_parts.specs.Told.{kind_at}
 use Rattle.heap_core.specs.Heap.{HeapSeen, heap_of, StandsFor, StandsForIf}
 use Rattle.heap_core.specs.Commands.{AreStanding, IsStanding, OfParts, CanDo, IsFresh, Performs, told_by, told_if}
-use Rattle.heap_core.specs.TestStores.{Runs, CanRetype, pair, pairs, newborns, linked, numbered, relinked, tight_settings, tight_types, tight_setup, fixed_info, array_info, one_old, two_old, three_old, held_old, left_old, one_mixed, two_mixed, three_mixed, mixed, joined_mixed, homed_mixed}
+use Rattle.heap_core.specs.TestStores.{Runs, CanRetype, pair, pairs, newborns, linked, numbered, relinked, tight_settings, tight_types, tight_setup, fixed_info, one_old, two_old, three_old, held_old, left_old}
 use Rattle.heap_core.proofs.LookLaws.{look_told}
 use Rattle.heap_core.proofs.Ready.{kind-some, object_in_slot}
 use Rattle.heap_core.proofs.Runs.{can_do, left_by, unless, runs_started, runs_born}
@@ -149,15 +149,6 @@ old_fixed {old = old} {new = new} setup info store root type_id known many room 
     let left = left_by setup old new store (NewFixed root type_id) runs p in
     subst (λ (s : Store). Runs setup new s) (old_birth setup info store left.later (fixed_request root type_id) left.lines known many room within left.does) left.runs
 
-old_array : {old new : HeapSeen} {before after : List Line} (setup : Setup) (info : TypeInfo) (store : Store) (root type_id len : ℕ) → type_at setup type_id ≡ Some info
-    → young_words setup.settings < words_in info.shape len → needs_block setup.settings store (words_in info.shape len) ≡ false
-    → exceeds_limit setup.settings store (words_in info.shape len) ≡ false
-    → Runs setup old store → Performs old new (NewArray root type_id len) before after → Runs setup new (with_birth true store info (array_request root type_id len))
-unfolding Does
-old_array {old = old} {new = new} setup info store root type_id len known many room within runs p =
-    let left = left_by setup old new store (NewArray root type_id len) runs p in
-    subst (λ (s : Store). Runs setup new s) (old_birth setup info store left.later (array_request root type_id len) left.lines known many room within left.does) left.runs
-
 put_runs : {setup : Setup} {old new : HeapSeen} {store : Store} {before after : List Line} (root item value : ℕ) → Runs setup old store
     → Performs old new (Put root item value) before after → Runs setup new (put_int store root item value)
 unfolding Does
@@ -201,16 +192,7 @@ pub second_old : {old new : HeapSeen} {before after : List Line} → Runs tight_
     → Runs tight_setup new two_old
 second_old runs p = old_fixed tight_setup (fixed_info 17 1) one_old 1 4 refl (omega arith) refl refl runs p
 
--- they are written by the heap
-pub can_put_old : {heap : HeapSeen} → Runs tight_setup heap two_old → CanDo heap (Put 0 8 5)
-unfolding is_above
-can_put_old runs = can (Put 0 8 5) runs refl
-
-pub can_link_old : {old new : HeapSeen} {before after : List Line} → Runs tight_setup old two_old → Performs old new (Put 0 8 5) before after → CanDo new (Link 0 0 1)
-unfolding is_above
-can_link_old runs p = can (Link 0 0 1) (put_runs 0 8 5 runs p) refl
-
--- and by words
+-- they are written by words
 pub can_write_old : {heap : HeapSeen} → Runs tight_setup heap two_old → CanDo heap (Put 1 16 77)
 unfolding is_above
 can_write_old runs = can (Put 1 16 77) runs refl
@@ -298,72 +280,3 @@ retypes_if parts runs =
 
 pub retypes : {heap : HeapSeen} {parts : HeapParts} → heap ≡ heap_of parts → Runs tight_setup heap two_old → CanRetype parts 0 6
 retypes {parts = parts} is runs = retypes_if parts (subst (λ (h : HeapSeen). Runs tight_setup h two_old) is runs)
-
--- objects of all kinds are born
-pub can_first_mixed : {heap : HeapSeen} → Runs tight_setup heap (empty_store tight_settings) → CanDo heap (NewFixed 0 1)
-unfolding is_above
-can_first_mixed runs = can (NewFixed 0 1) runs refl
-
-pub first_mixed : {old new : HeapSeen} {before after : List Line} → Runs tight_setup old (empty_store tight_settings) → Performs old new (NewFixed 0 1) before after
-    → Runs tight_setup new one_mixed
-first_mixed {old = old} {new = new} runs p = runs_born tight_setup (fixed_info 1 1) old new (empty_store tight_settings) 0 1 refl (omega arith) refl refl refl runs p
-
-pub can_second_mixed : {heap : HeapSeen} → Runs tight_setup heap one_mixed → CanDo heap (NewFixed 1 2)
-unfolding is_above
-can_second_mixed runs = can (NewFixed 1 2) runs refl
-
-pub second_mixed : {old new : HeapSeen} {before after : List Line} → Runs tight_setup old one_mixed → Performs old new (NewFixed 1 2) before after
-    → Runs tight_setup new two_mixed
-second_mixed {old = old} {new = new} runs p = runs_born tight_setup (fixed_info 1 0) old new one_mixed 1 2 refl (omega arith) refl refl refl runs p
-
-pub can_third_mixed : {heap : HeapSeen} → Runs tight_setup heap two_mixed → CanDo heap (NewFixed 2 3)
-unfolding is_above
-can_third_mixed runs = can (NewFixed 2 3) runs refl
-
-pub third_mixed : {old new : HeapSeen} {before after : List Line} → Runs tight_setup old two_mixed → Performs old new (NewFixed 2 3) before after
-    → Runs tight_setup new three_mixed
-third_mixed runs p = old_fixed tight_setup (fixed_info 9 1) two_mixed 2 3 refl (omega arith) refl refl runs p
-
-pub can_fourth_mixed : {heap : HeapSeen} → Runs tight_setup heap three_mixed → CanDo heap (NewArray 3 5 14)
-unfolding is_above
-can_fourth_mixed runs = can (NewArray 3 5 14) runs refl
-
-pub fourth_mixed : {old new : HeapSeen} {before after : List Line} → Runs tight_setup old three_mixed → Performs old new (NewArray 3 5 14) before after
-    → Runs tight_setup new mixed
-fourth_mixed runs p = old_array tight_setup array_info three_mixed 3 5 14 refl (omega arith) refl refl runs p
-
--- the array refers to the first object, whose home is told, and the second is pinned
-pub can_join_mixed : {heap : HeapSeen} → Runs tight_setup heap mixed → CanDo heap (Link 3 13 0)
-unfolding is_above
-can_join_mixed runs = can (Link 3 13 0) runs refl
-
-pub join_mixed : {old new : HeapSeen} {before after : List Line} → Runs tight_setup old mixed → Performs old new (Link 3 13 0) before after
-    → Runs tight_setup new joined_mixed
-join_mixed runs p = link_runs 3 13 0 runs p
-
-pub can_tell_mixed : {heap : HeapSeen} → Runs tight_setup heap joined_mixed → CanDo heap (Ident 0)
-unfolding is_above
-can_tell_mixed runs = can (Ident 0) runs refl
-
-pub record IsHomed (heap : HeapSeen) : Type 0 where
-  pub home : ℕ
-  pub runs : Runs tight_setup heap (homed_mixed home)
-
-pub tell_mixed : {old new : HeapSeen} {before after : List Line} → Runs tight_setup old joined_mixed → Performs old new (Ident 0) before after → IsHomed new
-unfolding Does
-tell_mixed {old = old} {new = new} runs p =
-    let left = left_by tight_setup old new joined_mixed (Ident 0) runs p in
-    let tells = left.does.1 in
-    let one : tells.birth ≡ 1 = (let e : Some 1 ≡ Some tells.birth = tells.is_held in cc) in record {
-      home = left.does.0;
-      runs =
-          subst (λ (s : Store). Runs tight_setup new s)
-          (tells.leaves ∙ ap (λ (birth : ℕ). record joined_mixed { homes = with_value joined_mixed.homes birth left.does.0 }) one) left.runs;
-    }
-
-pub can_pin_mixed : {heap : HeapSeen} → IsHomed heap → CanDo heap (Pin 1)
-unfolding is_above
-can_pin_mixed is = can (Pin 1) is.runs refl
-
-pub pin_mixed : {old new : HeapSeen} {before after : List Line} → IsHomed old → Performs old new (Pin 1) before after → IsStanding new
-pin_mixed {old = old} {new = new} is p = let left = left_by tight_setup old new (homed_mixed is.home) (Pin 1) is.runs p in standing left.runs

@@ -1,9 +1,12 @@
 -- What the calls that collect answer, and those of births.
-use Rattle.std.specs.Prelude.{◌≡◌, ℕ, true, false, List, ◌++◌, Some, Result, Ok, Err, IsTrue, ◌⊎◌}
+use Rattle.std.specs.Prelude.{◌≡◌, ℕ, true, false, if◌then◌else◌, List, ◌++◌, Option, None, Some, Result, Ok, Err, IsTrue, ◌⊎◌}
 use Rattle.std.specs.declared.alloc.AllocError.{AllocError}
+use Rattle.type_table.specs.declared.info.TypeInfo.{TypeInfo}
 use Rattle.text_model.specs.declared.command.Command.{Command}
+use Rattle.text_model.specs.declared.command.Command.TheVariants.{NewFixed, NewArray}
 use Rattle.text_model.specs.declared.line.Line.{Line}
 use Rattle.object_model.specs.Setup.{Setup}
+use Rattle.object_model.specs.Shapes.{is_array_shape}
 use Rattle.store_model.specs.Store.{Store}
 use Rattle.store_model.specs.Births.{words_asked}
 use Rattle.store_model.specs.Collections.{MakesRoom, needs_block, exceeds_limit}
@@ -64,3 +67,9 @@ EndsCall (Err error) old new result = (result ≡ Err OutOfMemory) × (new ≡ s
 abbrev pub EndsBirthCall : Result (Unit {0}) HeapFault → HeapSeen → HeapSeen → Result (Unit {0}) HeapFault → Type 0
 EndsBirthCall (Err Spent) old new result = (result ≡ Err OutOfMemory) × (new ≡ spent_heap)
 EndsBirthCall ended old new result = (result ≡ ended) × (new ≡ old)
+
+-- the command by which an object of a type is born: with a length where the type is one of arrays
+abbrev pub birth_command : Option TypeInfo → ℕ → ℕ → ℕ → Command
+birth_command None root type_id len = NewFixed root type_id
+birth_command (Some info) root type_id len =
+    if is_array_shape info.shape then NewArray root type_id len else NewFixed root type_id

@@ -10,3 +10,4 @@ pub mod Pinning
 pub mod Telling
 pub mod TestStores
 pub mod Retained
+pub mod Words

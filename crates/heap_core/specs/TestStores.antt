@@ -1,13 +1,13 @@
 -- The stores that the heap of a test stands for, one behind each call.
 use Rattle.std.specs.Prelude.{◌≡◌, ℕ, zero, suc, true, false, [], ◌∷◌, Some, None, IsSome}
 use Rattle.type_table.specs.declared.info.TypeInfo.{TypeInfo}
-use Rattle.type_table.specs.declared.info.Shape.TheVariants.{Fixed, RefArray}
+use Rattle.type_table.specs.declared.info.Shape.TheVariants.{Fixed}
 use Rattle.type_table.specs.Table.{Table, value_at}
 use Rattle.object_model.specs.declared.settings.Settings.{Settings}
 use Rattle.object_model.specs.ObjectWords.{info_at, info_or_weak}
 use Rattle.object_model.specs.Setup.{Setup, defaults}
 use Rattle.store_model.specs.Birth.{with_birth}
-use Rattle.store_model.specs.Births.{fixed_request, array_request}
+use Rattle.store_model.specs.Births.{fixed_request}
 use Rattle.store_model.specs.Slots.{held, put_in_slot}
 use Rattle.store_model.specs.Steps.{put_int, put_ref}
 use Rattle.store_model.specs.Store.{Store, empty_store}
@@ -46,19 +46,15 @@ numbered = put_int linked 0 0 77
 abbrev pub relinked : Store
 relinked = put_ref numbered 0 0 (held numbered.slots 2)
 
--- objects of more than 8 words are old, and of more than 16 words large; a card has 4 items
+-- objects of more than 8 words are old, and of more than 16 words large
 abbrev pub tight_settings : Settings
-tight_settings = record defaults { young = 8; small = 16; card = 4 }
+tight_settings = record defaults { young = 8; small = 16 }
 
 abbrev pub fixed_info : ℕ → ℕ → TypeInfo
 fixed_info ints refs = record { shape = Fixed ints refs; destructor = false }
 
-abbrev pub array_info : TypeInfo
-array_info = record { shape = RefArray; destructor = false }
-
 abbrev pub tight_types : Table TypeInfo
-tight_types =
-    (1, fixed_info 1 1) ∷ (2, fixed_info 1 0) ∷ (3, fixed_info 9 1) ∷ (4, fixed_info 17 1) ∷ (5, array_info) ∷ (6, fixed_info 9 1) ∷ []
+tight_types = (3, fixed_info 9 1) ∷ (4, fixed_info 17 1) ∷ (6, fixed_info 9 1) ∷ []
 
 abbrev pub tight_setup : Setup
 tight_setup = record { settings = tight_settings; types = tight_types }
@@ -81,27 +77,6 @@ held_old = put_ref three_old 0 0 (held three_old.slots 1)
 -- and is alone in a slot
 abbrev pub left_old : Store
 left_old = put_in_slot (put_in_slot held_old 1 None) 2 None
-
--- two young objects, a small old one, and a large array
-abbrev pub one_mixed : Store
-one_mixed = with_birth false (empty_store tight_settings) (fixed_info 1 1) (fixed_request 0 1)
-
-abbrev pub two_mixed : Store
-two_mixed = with_birth false one_mixed (fixed_info 1 0) (fixed_request 1 2)
-
-abbrev pub three_mixed : Store
-three_mixed = with_birth true two_mixed (fixed_info 9 1) (fixed_request 2 3)
-
-abbrev pub mixed : Store
-mixed = with_birth true three_mixed array_info (array_request 3 5 14)
-
--- the array refers to the first object
-abbrev pub joined_mixed : Store
-joined_mixed = put_ref mixed 3 13 (held mixed.slots 0)
-
--- whose home was told
-abbrev pub homed_mixed : ℕ → Store
-homed_mixed home = record joined_mixed { homes = (1, home) ∷ [] }
 
 -- the object in a slot may become one of another type, of the same shape
 pub record CanRetype (heap : HeapParts) (root id : ℕ) : Type 0 where

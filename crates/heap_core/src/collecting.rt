@@ -1,5 +1,5 @@
 //! Collections: minor collections, blocks, cycles, and the room for a birth.
-ghost use Rattle.std.specs.Prelude.{◌≡◌, ◌≤◌, true, false, [], OnOk, OnErr};
+ghost use Rattle.std.specs.Prelude.{◌≡◌, ◌≤◌, true, false, OnOk, OnErr};
 ghost use Rattle.text_model.specs.declared.command.Command.TheVariants.{Minor, Step, Collect};
 ghost use Rattle.store_model.specs.Collections.{is_scanning as is_scanning_phase};
 ghost use Rattle.heap_parts.specs.Collects.{CollectsMinor, StepsMajor};

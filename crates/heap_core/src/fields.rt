@@ -7,7 +7,7 @@ ghost use Rattle.heap_core.specs.Commands.{AreReady, CanDo, PartsDo, Performs, d
 ghost use Rattle.heap_core.specs.Found.{found_of, found_in};
 
 use crate::fault::HeapFault;
-use crate::found::{Found, find, read_int, write_int, write_ref};
+use crate::found::{Found, copy_refs, find, read_int, write_int, write_ref};
 use crate::heap::{Heap, State};
 use heap_parts::Parts;
 use std::alloc::AllocError;
@@ -145,7 +145,37 @@ impl Heap {
         ensures spent { IsTrue self.old.is_spent → result ≡ Err Spent }
     {
         match &mut self.state {
-            State::Started(parts) => Ok(copy_items(parts, root, i, from, j, n)?),
+            State::Started(parts) => {
+                let found = find(parts, root);
+                let source = find(parts, from);
+                Ok(copy_items(parts, root, found, i, from, source, j, n)?)
+            }
+            State::Closed | State::Spent => Err(HeapFault::Spent),
+        }
+    }
+
+    /// As `copy_refs`, with no further look at the two objects: `found` and `source` are what the call `found` answers for their
+    /// slots now. After an error nothing is changed.
+    pub fn copy_refs_found(
+        &mut self,
+        root: u32,
+        found: Option<Found>,
+        i: u64,
+        from: u32,
+        source: Option<Found>,
+        j: u64,
+        n: u64,
+    ) -> Result<(), HeapFault>
+        requires can { CanDo self.old (CopyRefs root i from j n) }
+        requires found { found ≡ found_in self.old root }
+        requires source { source ≡ found_in self.old from }
+        ensures performs { OnOk result (Performs self.old self.new (CopyRefs root i from j n) [] []) }
+        ensures err { OnErr result (self.new ≡ self.old) }
+        ensures cause { IfErr result (λ fault. fault ≡ fault_of self.old.is_spent) }
+        ensures spent { IsTrue self.old.is_spent → result ≡ Err Spent }
+    {
+        match &mut self.state {
+            State::Started(parts) => { Ok(copy_items(parts, root, found, i, from, source, j, n)?) }
             State::Closed | State::Spent => Err(HeapFault::Spent),
         }
     }
@@ -202,26 +232,35 @@ fn link_ref(
     Ok(())
 }
 
-/// Copies references of the object in one slot to items of that in another. The write barrier comes first: a place in the
-/// nursery costs it one test.
+/// Copies references of the object in one slot to items of that in another, both of which were found before. The write barrier
+/// comes first: a place in the nursery costs it one test.
 fn copy_items(
     parts: &mut Parts,
     root: u32,
+    found: Option<Found>,
     i: u64,
     from: u32,
+    source: Option<Found>,
     j: u64,
     n: u64,
 ) -> Result<(), AllocError>
-    requires { AreReady parts.old (CopyRefs root i from j n) }
+    requires ready { AreReady parts.old (CopyRefs root i from j n) }
+    requires found { found ≡ found_of parts.old root }
+    requires source { source ≡ found_of parts.old from }
     ensures does { OnOk result (PartsDo parts.old parts.new (CopyRefs root i from j n) []) }
     ensures err { OnErr result (parts.new ≡ parts.old) }
 {
-    let target = parts.place(root);
-    if target < FIRST_OLD {
-        parts.copy_refs(root, i, from, j, n);
+    let Some(target) = found else {
+        unreachable!();
+    };
+    let Some(seen) = source else {
+        unreachable!();
+    };
+    if target.place < FIRST_OLD {
+        copy_refs(parts, target, i, seen, j, n);
         return Ok(());
     }
-    parts.remember_items(target, i, n)?;
-    parts.copy_refs(root, i, from, j, n);
+    parts.remember_items(target.place, i, n)?;
+    copy_refs(parts, target, i, seen, j, n);
     Ok(())
 }

@@ -1,13 +1,14 @@
 //! The object in a slot, looked at once: the refusals of a command and its work read what was seen.
-ghost use Rattle.std.specs.Prelude.{◌≡◌, ◌≢◌, ◌+◌, ◌<◌, option_map};
+ghost use Rattle.std.specs.Prelude.{◌≡◌, ◌≢◌, ◌+◌, ◌<◌, ◌≤◌, option_map};
 ghost use Rattle.object_view.specs.Views.{HasObject};
 ghost use Rattle.heap_parts.specs.Parts.{word_in, place_in};
 ghost use Rattle.heap_parts.specs.Effects.{with_word_at};
+ghost use Rattle.heap_parts.specs.Copies.{with_copied};
 ghost use Rattle.heap_core.specs.Found.{kind_of, found_from, found_of, IsFound};
 
 use heap_parts::Parts;
 use object_model::Kind;
-use object_view::{ObjView, int_at, ref_at, set_int, set_ref, view};
+use object_view::{ObjView, int_at, move_refs, ref_at, set_int, set_ref, view};
 use type_table::Shape;
 
 /// What was seen of an object: its place, its shape, and where its parts lie. It serves until the heap changes.
@@ -96,4 +97,45 @@ pub(crate) fn read_ref(parts: &Parts, found: Found, item: u64) -> u64
     // The places of a space are below 2^63.
     let _ordered = parts.space.arena_words();
     ref_at(&parts.space, found.view, found.place, item)
+}
+
+/// The place to which the target of the weak object that was found leads, or 0.
+pub(crate) fn read_target(parts: &Parts, found: Found) -> u64
+    requires seen { IsFound parts.now.memory parts.now.setup.types found }
+    requires target { found.view.ref_start < found.place + found.view.words }
+    ensures { result ≡ word_in parts.now found.view.ref_start }
+{
+    // The places of a space are below 2^63.
+    let _ordered = parts.space.arena_words();
+    ref_at(&parts.space, found.view, found.place, 0)
+}
+
+/// Copies so many references of an object that was found, from an item on, to items of another one, or of the same. All are
+/// read as they were before.
+pub(crate) fn copy_refs(
+    parts: &mut Parts,
+    to: Found,
+    item: u64,
+    from: Found,
+    from_item: u64,
+    count: u64,
+)
+    requires to { IsFound parts.old.memory parts.old.setup.types to }
+    requires from { IsFound parts.old.memory parts.old.setup.types from }
+    requires items { item + count ≤ to.view.ref_count }
+    requires from_items { from_item + count ≤ from.view.ref_count }
+    ensures { parts.new ≡ with_copied parts.old (to.view.ref_start + item) (from.view.ref_start + from_item) count }
+{
+    // The places of a space are below 2^63.
+    let _ordered = parts.space.arena_words();
+    move_refs(
+        &mut parts.space,
+        to.view,
+        to.place,
+        item,
+        from.view,
+        from.place,
+        from_item,
+        count,
+    );
 }

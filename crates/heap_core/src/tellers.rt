@@ -7,9 +7,11 @@ ghost use Rattle.heap_parts.specs.Told.{items_of};
 ghost use Rattle.heap_core.specs.Heap.{StandsFor};
 ghost use Rattle.heap_core.specs.Commands.{IsStanding, type_found, told_by};
 ghost use Rattle.heap_core.specs.Found.{kind_of, found_in};
+ghost use Rattle.heap_core.specs.Words.{word_if, word_told};
 
 use crate::found::{Found, find};
 use crate::heap::{Heap, State};
+use heap_space::Space;
 use object_model::{Kind, StructState};
 use type_table::{Shape, TypeInfo};
 
@@ -54,7 +56,10 @@ impl Heap {
         requires { IsStanding self.now }
         ensures { result ≡ is_some ((told_by self.now).kind root) }
     {
-        self.kind_in(root).is_some()
+        match &self.state {
+            State::Started(parts) => parts.place(root) != 0,
+            State::Closed | State::Spent => false,
+        }
     }
 
     /// The shape of the object in a slot.
@@ -77,6 +82,17 @@ impl Heap {
             Shape::IntArray => kind.ints,
             Shape::RefArray => kind.refs,
             Shape::Fixed { .. } | Shape::Weak => 0,
+        }
+    }
+
+    /// The word at a place, of whatever use: None where no block of the heap has the place, or where the heap was not started. It
+    /// lets a test or a debugger walk the objects as they lie.
+    pub fn word(&self, place: u64) -> Option<u64>
+        ensures { result ≡ word_told self.now place }
+    {
+        match &self.state {
+            State::Started(parts) => word_at(&parts.space, place),
+            State::Closed | State::Spent => None,
         }
     }
 
@@ -135,4 +151,14 @@ impl Heap {
             State::Closed | State::Spent => StructState::Absent,
         }
     }
+}
+
+/// The word at a place of a space, None where no block has the place.
+fn word_at(space: &Space, place: u64) -> Option<u64>
+    ensures { result ≡ word_if space.now place }
+{
+    if space.has(place) {
+        return Some(space.read(place));
+    }
+    None
 }

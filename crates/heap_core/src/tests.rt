@@ -7,20 +7,19 @@ ghost use Rattle.store_model.specs.Store.{empty_store};
 ghost use Rattle.heap_parts.specs.Parts.{place_in};
 ghost use Rattle.heap_parts.specs.Effects.{HasObjectIn, layout_in, ref_place, with_word_at};
 ghost use Rattle.heap_core.specs.Heap.{closed_heap};
-ghost use Rattle.heap_core.specs.Commands.{AreReady, AreStanding, IsStanding, CanDo, PartsDo, Performs};
-ghost use Rattle.heap_core.specs.TestStores.{Runs, CanRetype, pairs, newborns, linked, tight_settings, fixed_info, array_info, tight_types, tight_setup, two_old, left_old, mixed};
+ghost use Rattle.heap_core.specs.Commands.{AreReady, IsStanding, CanDo, PartsDo, Performs};
+ghost use Rattle.heap_core.specs.TestStores.{Runs, CanRetype, pairs, newborns, linked, tight_settings, fixed_info, tight_types, tight_setup, two_old, left_old};
 
 use super::*;
 use crate::heap::State;
 use heap_parts::Parts;
 use heap_space::Space;
-use object_header::type_id;
 use object_model::Settings;
 use object_view::{set_int, set_ref, view};
 use std::alloc::{AllocError, Global};
 use std::test::Fail;
 use text_model::Line;
-use type_table::{Shape, TypeFault, TypeInfo, TypeTable, words};
+use type_table::{Shape, TypeFault, TypeInfo, TypeTable};
 
 // The place of the first word outside the nursery.
 const FIRST_OLD: u64 = 4_294_967_296;
@@ -158,14 +157,13 @@ fn words_are_the_heap(rt: HostRuntime) -> Result<(), Fail> {
     Ok(())
 }
 
-// Objects of more than 8 words are old, and of more than 16 words large. A card has 4 items.
+// Objects of more than 8 words are old, and of more than 16 words large.
 fn tight() -> Settings
     ensures { result ≡ tight_settings }
 {
     Settings {
         young: 8,
         small: 16,
-        card: 4,
         ..Settings::DEFAULT
     }
 }
@@ -188,28 +186,13 @@ fn add_fixed(types: &mut TypeTable, id: u16, ints: u16, refs: u16) -> Result<(),
     types.add(id, info)
 }
 
-// Adds a type of arrays of references.
-fn add_array(types: &mut TypeTable, id: u16) -> Result<(), TypeFault>
-    ensures { OnOk result (types.new ≡ with_value types.old id array_info) }
-{
-    let info = TypeInfo {
-        shape: Shape::RefArray,
-        destructor: false,
-    };
-    types.add(id, info)
-}
-
-// Objects of type 1 are young, of 4 words, and those of type 2, of 3 words, which can't refer. Those of types 3 and 6 are
-// small and old, of 12 words, and those of types 4 and 5 large, with 20 words, or 3 words and the items.
+// Objects of types 3 and 6 are small and old, of 12 words, and those of type 4 large, of 20 words.
 fn add_types(types: &mut TypeTable) -> Result<(), TypeFault>
     requires { types.old ≡ [] }
     ensures { OnOk result (types.new ≡ tight_types) }
 {
-    add_fixed(types, 1, 1, 1)?;
-    add_fixed(types, 2, 1, 0)?;
     add_fixed(types, 3, 9, 1)?;
     add_fixed(types, 4, 17, 1)?;
-    add_array(types, 5)?;
     add_fixed(types, 6, 9, 1)
 }
 
@@ -252,15 +235,6 @@ fn bear_old(heap: &mut Heap, alloc: Global) -> Result<(), HeapFault>
     Ok(())
 }
 
-// What the heap writes into old objects, as words.
-fn old_words(heap: &mut Heap) -> Result<(u64, u64), HeapFault>
-    requires { Runs tight_setup heap.old two_old }
-{
-    heap.put(0, 8, 5)?;
-    heap.link(0, 0, 1)?;
-    Ok((word_of(heap, 0, 10), word_of(heap, 0, 11)))
-}
-
 // What the heap answers after words of old objects were written.
 fn old_answers(heap: &mut Heap) -> Result<(u64, Option<u64>), HeapFault>
     requires { Runs tight_setup heap.old two_old }
@@ -280,14 +254,6 @@ fn start_tight(heap: &mut Heap, alloc: Global) -> Result<(), Fail>
     let types = tight_table(alloc)?;
     heap.start(alloc, &tight(), types)?;
     Ok(())
-}
-
-fn words_written(heap: &mut Heap, alloc: Global) -> Result<(u64, u64), Fail>
-    requires { heap.old ≡ closed_heap }
-{
-    start_tight(heap, alloc)?;
-    bear_old(heap, alloc)?;
-    Ok(old_words(heap)?)
 }
 
 fn words_answered(heap: &mut Heap, alloc: Global) -> Result<(u64, Option<u64>), Fail>
@@ -326,106 +292,6 @@ fn types_of_first(heap: &mut Heap) -> Result<(u16, u16), HeapFault>
     }
 }
 
-// How many words the object at a place takes.
-fn words_at(parts: &Parts, place: u64) -> u64 {
-    let Some(info) = parts.types.get(type_id(raw_word(&parts.space, place, 0))) else {
-        return 1;
-    };
-    words(info, raw_word(&parts.space, place, 2).min(16_777_216))
-}
-
-// Appends each object in so many words of the nursery: its place, its first word, and its home or 0.
-fn list_range(
-    parts: &Parts,
-    from: u64,
-    count: u64,
-    found: &mut Vec<(u64, u64, u64)>,
-) -> Result<(), HeapFault> {
-    let mut next = 0;
-    for k in 0..count {
-        if k == next {
-            let place = from.saturating_add(k);
-            let home = parts.home(place).unwrap_or(0);
-            found.push((place, raw_word(&parts.space, place, 0), home))?;
-            next = k.saturating_add(words_at(parts, place));
-        }
-    }
-    Ok(())
-}
-
-// Appends each object of the nursery.
-fn list_nursery(parts: &Parts, found: &mut Vec<(u64, u64, u64)>) -> Result<(), HeapFault> {
-    for k in 0..8 {
-        if let Some((from, count)) = parts.nursery.used_range(k) {
-            list_range(parts, from, count, found)?;
-        }
-    }
-    Ok(())
-}
-
-// Appends each live block outside the nursery: its place, its words, and its first word.
-fn list_blocks(
-    parts: &Parts,
-    alloc: Global,
-    found: &mut Vec<(u64, u64, u64)>,
-) -> Result<(), HeapFault>
-    requires { AreStanding parts.now }
-{
-    let mut live = Vec::new(alloc);
-    parts.old_blocks.live_blocks(&parts.space, &mut live)?;
-    for block in &live {
-        found.push((block.0, block.1, raw_word(&parts.space, block.0, 0)))?;
-    }
-    Ok(())
-}
-
-// Appends what stands in the nursery, and then what stands outside it.
-fn list_all(heap: &Heap, alloc: Global, found: &mut Vec<(u64, u64, u64)>) -> Result<(), HeapFault>
-    requires { IsStanding heap.now }
-{
-    match &heap.state {
-        State::Started(parts) => {
-            list_nursery(parts, found)?;
-            list_blocks(parts, alloc, found)
-        }
-        State::Closed | State::Spent => Err(HeapFault::Spent),
-    }
-}
-
-// Two young objects, a small old one, and a large array of references.
-fn bear_mixed(heap: &mut Heap, alloc: Global) -> Result<(), HeapFault>
-    requires { Runs tight_setup heap.old (empty_store tight_settings) }
-    ensures { OnOk result (Runs tight_setup heap.new mixed) }
-{
-    let mut out = Vec::new(alloc);
-    heap.new_fixed(0, 1, &mut out)?;
-    heap.new_fixed(1, 2, &mut out)?;
-    heap.new_fixed(2, 3, &mut out)?;
-    heap.new_array(3, 5, 14, &mut out)?;
-    Ok(())
-}
-
-// The array refers to the first object, whose home is told, and the second object is pinned.
-fn flag_mixed(heap: &mut Heap) -> Result<(), HeapFault>
-    requires { Runs tight_setup heap.old mixed }
-    ensures { OnOk result (IsStanding heap.new) }
-{
-    heap.link(3, 13, 0)?;
-    heap.identity(0)?;
-    heap.pin(1)?;
-    Ok(())
-}
-
-fn list_mixed(heap: &mut Heap, alloc: Global, found: &mut Vec<(u64, u64, u64)>) -> Result<(), Fail>
-    requires { heap.old ≡ closed_heap }
-{
-    start_tight(heap, alloc)?;
-    bear_mixed(heap, alloc)?;
-    flag_mixed(heap)?;
-    list_all(heap, alloc, found)?;
-    Ok(())
-}
-
 // A third object, small and old. A word of the first alone leads to the second then, and none to the third.
 fn leave_third(heap: &mut Heap, alloc: Global) -> Result<(), HeapFault>
     requires { Runs tight_setup heap.old two_old }
@@ -460,19 +326,12 @@ fn collect_left(heap: &mut Heap, alloc: Global, births: &mut Vec<u64>) -> Result
     Ok(())
 }
 
-// Lists what stands in the words before and after the collection, and answers the word of the first object that refers.
-fn list_around(
-    heap: &mut Heap,
-    alloc: Global,
-    found: &mut Vec<(u64, u64, u64)>,
-    births: &mut Vec<u64>,
-) -> Result<u64, HeapFault>
+// A word of the first object, and the births of what a collection frees.
+fn words_collected(heap: &mut Heap, alloc: Global, births: &mut Vec<u64>) -> Result<u64, HeapFault>
     requires { Runs tight_setup heap.old left_old }
 {
     let word = word_of(heap, 0, 11);
-    list_all(heap, alloc, found)?;
     collect_left(heap, alloc, births)?;
-    list_all(heap, alloc, found)?;
     Ok(word)
 }
 
@@ -487,16 +346,11 @@ fn start_left(heap: &mut Heap, alloc: Global) -> Result<(), Fail>
     Ok(())
 }
 
-fn words_collected(
-    heap: &mut Heap,
-    alloc: Global,
-    found: &mut Vec<(u64, u64, u64)>,
-    births: &mut Vec<u64>,
-) -> Result<u64, Fail>
+fn play_left(heap: &mut Heap, alloc: Global, births: &mut Vec<u64>) -> Result<u64, Fail>
     requires { heap.old ≡ closed_heap }
 {
     start_left(heap, alloc)?;
-    Ok(list_around(heap, alloc, found, births)?)
+    Ok(words_collected(heap, alloc, births)?)
 }
 
 // Starts a heap with one object, and asks for its type.
@@ -506,12 +360,6 @@ fn play_types(heap: &mut Heap, alloc: Global) -> Result<(u16, u16), Fail>
     start_tight(heap, alloc)?;
     bear_old(heap, alloc)?;
     Ok(types_of_first(heap)?)
-}
-
-// What a heap of its own wrote.
-fn words_of_own(alloc: Global) -> Result<(u64, u64), Fail> {
-    let mut heap = Heap::closed();
-    words_written(&mut heap, alloc)
 }
 
 // What a heap of its own answers of its old objects.
@@ -526,30 +374,10 @@ fn types_of_words(alloc: Global) -> Result<(u16, u16), Fail> {
     play_types(&mut heap, alloc)
 }
 
-// Appends all that stands in the words of a heap of its own.
-fn list_own(alloc: Global, found: &mut Vec<(u64, u64, u64)>) -> Result<(), Fail> {
-    let mut heap = Heap::closed();
-    list_mixed(&mut heap, alloc, found)
-}
-
 // What a heap of its own frees.
-fn collect_own(
-    alloc: Global,
-    found: &mut Vec<(u64, u64, u64)>,
-    births: &mut Vec<u64>,
-) -> Result<u64, Fail> {
+fn collect_own(alloc: Global, births: &mut Vec<u64>) -> Result<u64, Fail> {
     let mut heap = Heap::closed();
-    words_collected(&mut heap, alloc, found, births)
-}
-
-// What the heap writes into a small and a large old object stands in their words.
-#[test]
-fn words_of_old_objects(rt: HostRuntime) -> Result<(), Fail> {
-    let (number, place) = words_of_own(rt.alloc())?;
-    assert_eq!(rt; number, 5);
-    // The first large block begins at 2^40.
-    assert_eq!(rt; place, 1_099_511_627_776);
-    Ok(())
+    play_left(&mut heap, alloc, births)
 }
 
 // And what is written into their words the heap finds.
@@ -570,47 +398,13 @@ fn header_is_the_type(rt: HostRuntime) -> Result<(), Fail> {
     Ok(())
 }
 
-// A walk through all words finds just the objects and the one home, with their flags: Track is 2^16, HasShadow 2^18,
-// Pinned 2^19, HasCards 2^20, CardsSet 2^21 and Shadow 2^23.
-#[test]
-fn walk_finds_all(rt: HostRuntime) -> Result<(), Fail> {
-    let mut found = Vec::new(rt.alloc());
-    list_own(rt.alloc(), &mut found)?;
-    let expected = [
-        // 1 + 2^18, with its home
-        (1, 262_145, 4_294_967_816),
-        // behind its 4 words, 2 + 2^19
-        (5, 524_290, 0),
-        // behind the 8 words of the first page, 3 + 2^16
-        (4_294_967_304, 12, 65_539),
-        // behind the 8 words of the second page, 512 words on, 2^23
-        (4_294_967_816, 4, 8_388_608),
-        // at 2^40, 5 + 2^16 + 2^20 + 2^21
-        (1_099_511_627_776, 17, 3_211_269),
-    ];
-    assert_eq!(rt; found.as_slice(), expected.as_slice());
-    Ok(())
-}
-
 // A collection frees just the settled object to which no slot and no word leads, the third.
 #[test]
 fn lost_is_freed(rt: HostRuntime) -> Result<(), Fail> {
-    let mut found = Vec::new(rt.alloc());
     let mut births = Vec::new(rt.alloc());
-    let word = collect_own(rt.alloc(), &mut found, &mut births)?;
+    let word = collect_own(rt.alloc(), &mut births)?;
+    // the second, at 2^40
     assert_eq!(rt; word, 1_099_511_627_776);
     assert_eq!(rt; births.as_slice(), [3].as_slice());
-    let expected = [
-        // the first was written, and is remembered: no Track
-        (4_294_967_304, 12, 3),
-        // the third, behind it
-        (4_294_967_316, 12, 65_539),
-        // the second, at 2^40
-        (1_099_511_627_776, 20, 65_540),
-        // afterwards, the first and the second
-        (4_294_967_304, 12, 65_539),
-        (1_099_511_627_776, 20, 65_540),
-    ];
-    assert_eq!(rt; found.as_slice(), expected.as_slice());
     Ok(())
 }

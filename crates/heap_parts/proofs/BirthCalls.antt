@@ -11,7 +11,7 @@ use Rattle.object_header.specs.Words.{IsHeader, with_flag}
 use Rattle.object_header.specs.declared.flags.Flag.TheVariants.{Track, HasCards}
 use Rattle.object_header.proofs.WordLaws.{IsHeader-with_flag}
 use Rattle.object_view.proofs.InitLaws.{lies-part}
-use Rattle.old_space.specs.HasBlocks.{HasBlocks, greatest_small}
+use Rattle.old_space.specs.HasBlocks.{HasBlocks, greatest_small, page_size}
 use Rattle.old_space.specs.Calls.{IsElsewhere}
 use Rattle.old_space.specs.declared.Old.{Old}
 use Rattle.old_space.proofs.JoinLaws.{HasBlocks-first}
@@ -49,7 +49,7 @@ bears_young heap mid new nursery place n root type_id info items target size low
 pub keeps_live : (heap : HeapParts) (old : Old) (m : Memory)
     → ((live : List Extent) (waiting : List ℕ) → HasBlocks heap.old_blocks heap.memory live waiting → KeepsWords heap.memory m live)
     → KeepsOutside 4294967296 9223372036854775808 heap.memory m → m.arena_words ≡ heap.memory.arena_words
-    → greatest_small old ≡ greatest_small heap.old_blocks → old.pages.page ≡ heap.old_blocks.pages.page → KeepsLive heap (with_old_blocks heap old m)
+    → greatest_small old ≡ greatest_small heap.old_blocks → page_size old ≡ page_size heap.old_blocks → KeepsLive heap (with_old_blocks heap old m)
 keeps_live heap old m kept outside arenas small page = record { only = refl; kept = kept; outside = outside; arenas = arenas; small = small; page = page }
 
 -- it took a block

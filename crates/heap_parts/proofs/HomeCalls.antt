@@ -8,7 +8,7 @@ use Rattle.std.proofs.lemmas.Bool.{cases_Bool}
 use Rattle.heap_space.specs.Memory.{Memory}
 use Rattle.heap_space.specs.Extents.{Extent, KeepsWords, KeepsOutside}
 use Rattle.large_objects.specs.Blocks.{without_place}
-use Rattle.old_space.specs.HasBlocks.{HasBlocks, Stands, IsLive, greatest_small}
+use Rattle.old_space.specs.HasBlocks.{HasBlocks, Stands, IsLive, greatest_small, page_size}
 use Rattle.old_space.specs.Calls.{still_waiting, unit_of, IsElsewhere}
 use Rattle.size_pages.specs.Calls.{page_of}
 use Rattle.old_space.specs.declared.Old.{Old}
@@ -50,7 +50,7 @@ still-same : (old : Old) (waiting : List ℕ) (a : ℕ) → IsElsewhere old wait
 still-same old waiting a away = elim (cases_Bool (nat_lt a 1099511627776)) [
   | inl t ↦ ap (λ (b : Bool). if b then waiting else without_place a waiting) t
   | inr f ↦
-      (let unit : unit_of old a ≡ a = ap (λ (b : Bool). if b then page_of old.pages.page a else a) f in
+      (let unit : unit_of old a ≡ a = ap (λ (b : Bool). if b then page_of (page_size old) a else a) f in
       let out : is_in a waiting ≡ false = elim (cases_Bool (is_in a waiting)) [
         | inl t ↦ absurd (away (subst (Contains waiting) (sym unit) (Contains-from_is_in a waiting t)))
         | inr g ↦ g
@@ -63,7 +63,7 @@ pub taken_back : (heap middle : HeapParts) (n a : ℕ) (old : Old) (m : Memory) 
     → ((live : List Extent) (waiting : List ℕ) → HasBlocks middle.old_blocks middle.memory ((a, n) ∷ live) waiting → HasBlocks old m live (still_waiting a waiting))
     → ((live : List Extent) (waiting : List ℕ) → HasBlocks middle.old_blocks middle.memory ((a, n) ∷ live) waiting → KeepsWords middle.memory m live)
     → KeepsOutside 4294967296 9223372036854775808 middle.memory m → m.arena_words ≡ middle.memory.arena_words
-    → greatest_small old ≡ greatest_small middle.old_blocks → old.pages.page ≡ middle.old_blocks.pages.page
+    → greatest_small old ≡ greatest_small middle.old_blocks → page_size old ≡ page_size middle.old_blocks
     → TakesNone heap (with_old_blocks middle old m)
 taken_back heap middle n a old m takes given kept outside arenas small page = record {
   keeps = record {

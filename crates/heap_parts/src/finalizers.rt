@@ -4,7 +4,6 @@ ghost use Rattle.object_view.specs.Views.{HasObject};
 ghost use Rattle.parts_model.specs.Registers.{is_final, with_registered, next_place, without_next};
 
 use crate::parts::Parts;
-use object_view::view;
 use std::alloc::AllocError;
 
 impl Parts {
@@ -17,7 +16,7 @@ impl Parts {
         ensures ok { OnOk result (self.new ≡ with_registered self.old place queue) }
         ensures err { OnErr result (self.new ≡ self.old) }
     {
-        let birth = view(&self.space, &self.types, place).birth;
+        let birth = self.birth_at(place);
         self.finals.register(place, birth, queue)
     }
 

@@ -1,5 +1,5 @@
 //! The parts of a started heap: words, blocks, and the lists and tables that name objects by their places.
-ghost use Rattle.std.specs.Prelude.{◌≡◌, ◌+◌, IfOk};
+ghost use Rattle.std.specs.Prelude.{◌≡◌, IfOk};
 ghost use Rattle.type_table.specs.Table.{value_at};
 ghost use Rattle.object_model.specs.SettingRanges.{AreInRange};
 ghost use Rattle.parts_model.specs.Parts.{AreFresh};

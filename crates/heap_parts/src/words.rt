@@ -1,15 +1,14 @@
 //! Words of the objects in slots, and the slots.
-ghost use Rattle.std.specs.Prelude.{◌≡◌, ◌≢◌, ◌+◌, ◌<◌, ◌≤◌, length};
+ghost use Rattle.std.specs.Prelude.{◌≡◌, ◌≢◌, ◌+◌, ◌<◌, length};
 ghost use Rattle.object_view.specs.Views.{HasObject};
 ghost use Rattle.object_model.specs.ObjectWords.{type_id_at};
 ghost use Rattle.parts_model.specs.Parts.{word_in, place_in};
 ghost use Rattle.parts_model.specs.Told.{kind_at};
-ghost use Rattle.parts_model.specs.Effects.{birth_read, HasObjectIn, layout_in, with_slot};
-ghost use Rattle.parts_model.specs.Copies.{with_copy};
+ghost use Rattle.parts_model.specs.Effects.{birth_read, HasObjectIn, with_slot};
 
 use crate::parts::Parts;
 use object_model::Kind;
-use object_view::{move_refs, view};
+use object_view::view;
 
 impl Parts {
     /// The place of the object in a slot, 0 where it is empty or not there.
@@ -64,22 +63,16 @@ impl Parts {
         if place == 0 {
             return None;
         }
-        Some(view(&self.space, &self.types, place).birth)
+        Some(self.birth_at(place))
     }
 
-    /// Copies so many references of the object in the slot `from`, from an item on, to items of the object in the slot
-    /// `root`. All are read as they were before. The cost is that of the copied words.
-    pub fn copy_refs(&mut self, root: u32, item: u64, from: u32, from_item: u64, count: u64)
-        requires object { HasObjectIn self.old root }
-        requires from_object { HasObjectIn self.old from }
-        requires items { item + count ≤ (layout_in self.old root).ref_count }
-        requires from_items { from_item + count ≤ (layout_in self.old from).ref_count }
-        ensures { self.new ≡ with_copy self.old root item from from_item count }
+    /// The birth of the object at a place: its word 1.
+    pub(crate) fn birth_at(&self, place: u64) -> u64
+        requires { HasObject self.now.memory self.now.setup.types place }
+        ensures { result ≡ word_in self.now (place + 1) }
     {
-        let a = self.place(root);
-        let b = self.place(from);
-        let to = view(&self.space, &self.types, a);
-        let source = view(&self.space, &self.types, b);
-        move_refs(&mut self.space, to, a, item, source, b, from_item, count);
+        // The places of a space are below 2^63.
+        let _ordered = self.space.arena_words();
+        self.space.read(place + 1)
     }
 }

@@ -1,6 +1,6 @@
 -- What the code lists as dead is what is condemned.
 use Rattle.std.proofs.Common.{◌≡◌, ℕ, ◌+◌, ◌⊎◌, Bool, true, false, IsTrue, List, [], ◌∷◌, ◌++◌, map, append-nil, refl, sym, ap, ap₂, ◌∙◌, subst, inl, inr, arith}
-use Rattle.std.specs.Prelude.{not, filter, ◌==◌, ◌&&◌, ◌%◌, if◌then◌else◌, sum_by}
+use Rattle.std.specs.Prelude.{not, filter, ◌==◌, ◌&&◌, ◌||◌, ◌%◌, if◌then◌else◌, sum_by}
 use Rattle.std.specs.List.Sorted.{IsPermutation}
 use Rattle.std.proofs.lemmas.Bool.{cases_Bool, ne_eqb}
 use Rattle.std.proofs.lemmas.List.{map-id}
@@ -13,9 +13,8 @@ use Rattle.type_table.specs.Table.{Table}
 use Rattle.heap_space.specs.Places.{word_at}
 use Rattle.heap_space.specs.Memory.{Memory}
 use Rattle.heap_space.specs.Extents.{Extent}
-use Rattle.object_header.specs.Words.{has_flag, with_flag}
+use Rattle.object_header.specs.Words.{has_flag, with_flag, survives_sweep}
 use Rattle.object_header.specs.declared.flags.Flag.TheVariants.{Visited, Shadow}
-use Rattle.size_pages.specs.Sweeping.{is_dead}
 use Rattle.object_model.specs.Sets.{is_in}
 use Rattle.object_model.specs.ObjectWords.{words_at, info_at, layout_at}
 use Rattle.object_model.proofs.Members.{map-same, filter-part, filter-member, false-in}
@@ -103,11 +102,12 @@ module _ (heap : HeapParts) (store : Store) (s : PartsStandFor heap store) (mark
       ] in
       let tells : gone (s.name p) ≡ not (has_flag (word_at m.blocks p) Visited) =
       dead_place heap store s saved m marking marks p part.0 ∙ ap (λ (b : Bool). not b && not (has_flag (word_at m.blocks p) Visited)) part.1 in
-      ap (λ (b : Bool). not (has_flag (word_at m.blocks p) Visited) && not b) shadow ∙ (and-true (not (has_flag (word_at m.blocks p) Visited)) ∙ sym tells)
+      ap (λ (b : Bool). not (has_flag (word_at m.blocks p) Visited || b)) shadow
+      ∙ (ap not (or-false (has_flag (word_at m.blocks p) Visited)) ∙ sym tells)
     where
-      and-true : (b : Bool) → (b && true) ≡ b
-      and-true true = refl
-      and-true false = refl
+      or-false : (b : Bool) → (b || false) ≡ b
+      or-false true = refl
+      or-false false = refl
 
   blocks-dead : filter (is_dead_in m) (marking_blocks heap store s) ≡ map B lost
   blocks-dead =
@@ -115,7 +115,7 @@ module _ (heap : HeapParts) (store : Store) (s : PartsStandFor heap store) (mark
       filter_at B (is_dead_in m) (λ p. gone (s.name p)) (old_places s.places) dead-is in
       let homes : filter (is_dead_in m) (reserved_blocks types w (home_in heap) (young_places s.places) ++ []) ≡ [] =
       filter-none (is_dead_in m) (reserved_blocks types w (home_in heap) (young_places s.places) ++ [])
-      (each-of-homes (λ x. is_dead_in m x ≡ false) types w (home_in heap) (young_places s.places) (λ a n t. ap is_dead (marks.heads.shadow a t) ∙ shadow_lives heap store s a t)) in
+      (each-of-homes (λ x. is_dead_in m x ≡ false) types w (home_in heap) (young_places s.places) (λ a n t. ap not (ap survives_sweep (marks.heads.shadow a t) ∙ shadow_lives heap store s a t))) in
       filter-append (is_dead_in m) (map B (old_places s.places)) _ ∙ (ap₂ (λ (xs ys : List Extent). xs ++ ys) olds homes
       ∙ (append-nil (map B (filter (λ p. gone (s.name p)) (old_places s.places))) ∙ ap (map B) (losing_old (is_condemned store saved) s.name s.places young_stay)))
 

@@ -17,7 +17,7 @@ use Rattle.object_header.specs.Words.{has_flag, with_flag}
 use Rattle.object_header.specs.declared.flags.Flag.TheVariants.{Visited, Order1, Order2}
 use Rattle.object_header.proofs.WordLaws.{with_flag-stays}
 use Rattle.object_model.specs.Layout.{Layout}
-use Rattle.object_model.specs.Sets.{is_in}
+use Rattle.object_model.specs.Sets.{is_in, AreDifferent}
 use Rattle.object_model.specs.ObjectWords.{updated, words_at, layout_at, Covers}
 use Rattle.object_model.proofs.Members.{and_first, and_second, and_both, false-in, filter-part, filter-member, is_in-cases, is_in-nil, map-same, not-true}
 use Rattle.object_view.specs.Views.{HasObject}
@@ -33,7 +33,6 @@ use Rattle.store_model.specs.Store.{Store, is_settled}
 use Rattle.store_model.specs.Reach.{Tells}
 use Rattle.store_model.specs.Marking.{IsMarked, IsSaved, is_white, is_condemned}
 use Rattle.weak_lists.specs.Targets.{ChangesTargets, kept_target}
-use Rattle.weak_lists.proofs.Once.{AreDifferent}
 use Rattle.heap_parts.specs.Parts.{HeapParts, word_in, home_in}
 use Rattle.heap_parts.specs.Places.{is_young, young_places, old_places, block_at}
 use Rattle.heap_parts.specs.OldSpace.{reserved_homes}
@@ -53,7 +52,7 @@ use Rattle.heap_phases.proofs.EndLines.{SortsBirths}
 use Rattle.heap_phases.proofs.EndMemory.{small, first_stays, words_end, shadow_stays, blocks_stay, below_stays}
 use Rattle.heap_phases.proofs.FinalPaths.{layout_stays, pointer, refs_stay, kept_saved, saved_kept}
 use Rattle.heap_phases.proofs.PlacePaths.{white_flag}
-use Rattle.heap_phases.proofs.SameMembers.{same_members, names_differ, part_differs}
+use Rattle.object_model.proofs.SameMembers.{same_members, names_differ, part_differs}
 
 pub same-bool : (a b : Bool) → (IsTrue a → IsTrue b) → (IsTrue b → IsTrue a) → a ≡ b
 same-bool true b to from = sym (to refl)

@@ -1,17 +1,16 @@
 -- The listed weak objects, each once, and whose births are told.
-use Rattle.std.proofs.Common.{◌≡◌, ℕ, ◌+◌, List, [], ◌∷◌, map, sym, ap, ◌∙◌, subst, arith}
+use Rattle.std.proofs.Common.{◌≡◌, ℕ, ◌+◌, List, [], map, sym, ap, ◌∙◌, subst, arith}
 use Rattle.std.specs.Prelude.{filter, nat_eq}
-use Rattle.std.specs.List.{IsDistinct}
 use Rattle.std.specs.List.Sorted.{IsPermutation, IsNonDecreasing}
 use Rattle.std.proofs.lemmas.Bool.Decides.{nat_tests}
 use Rattle.std.proofs.lemmas.Map.Keys.{IsDistinct-IsPermutation}
 use Rattle.std.proofs.lemmas.List.Sorted.{IsPermutation-map}
-use Rattle.object_model.proofs.Distinct.{distinct-apart, distinct-tail}
-use Rattle.object_model.proofs.Members.{is_in-head, is_in-named, false-in, filter-agree, not-in}
+use Rattle.object_model.proofs.SameMembers.{names_differ}
+use Rattle.object_model.proofs.Members.{filter-agree}
 use Rattle.text_model.specs.declared.line.Phase.TheVariants.{Marking}
 use Rattle.store_model.specs.Store.{Store}
 use Rattle.store_model.specs.Marking.{IsMarked, is_white}
-use Rattle.weak_lists.proofs.Once.{AreDifferent, once-different}
+use Rattle.weak_lists.proofs.Once.{once-different}
 use Rattle.weak_lists.specs.Cleared.{TellsInOrder, births_losing, once_after}
 use Rattle.weak_lists.specs.Targets.{is_unvisited, target_at}
 use Rattle.heap_parts.specs.Parts.{HeapParts, word_in}
@@ -25,16 +24,9 @@ use Rattle.heap_phases.proofs.EndLines.{SortsBirths}
 use Rattle.heap_phases.proofs.EndLists.{rise_filtered}
 use Rattle.heap_phases.proofs.EndMemory.{clears_is}
 
-different : (name : ℕ → ℕ) (xs : List ℕ) → IsDistinct nat_eq (map name xs) → AreDifferent xs
-different name [] d = tt
-different name (x ∷ xs) d = (
-  false-in x xs (λ t. not-in (name x) (map name xs) (distinct-apart (name x ∷ []) (map name xs) d (name x) (is_in-head (name x) [])) (is_in-named name x xs t)),
-  different name xs (distinct-tail (name x) (map name xs) d),
-)
-
 module _ (heap : HeapParts) (store : Store) (s : PartsStandFor heap store) (pinned : AreAllPinned store) (marked : IsMarked store) (marking : heap.phase ≡ Marking) where
   weaks-once : once_after [] heap.weaks ≡ heap.weaks
-  weaks-once = once-different heap.weaks (different s.name heap.weaks (IsDistinct-IsPermutation nat_eq (λ x y. grind (arith, nat_tests)) (map s.name (filter (is_weak_at heap.setup.types (word_in heap)) s.places)) (map s.name heap.weaks)
+  weaks-once = once-different heap.weaks (names_differ s.name heap.weaks (IsDistinct-IsPermutation nat_eq (λ x y. grind (arith, nat_tests)) (map s.name (filter (is_weak_at heap.setup.types (word_in heap)) s.places)) (map s.name heap.weaks)
       (IsPermutation-map s.name (filter (is_weak_at heap.setup.types (word_in heap)) s.places) heap.weaks s.words.weak)
       (rise-differ 1 heap.next (map s.name (filter (is_weak_at heap.setup.types (word_in heap)) s.places)) (rise_filtered s.name (is_weak_at heap.setup.types (word_in heap)) s.places 1 heap.next s.births.rise))))
 

@@ -7,7 +7,7 @@ use Rattle.heap_space.specs.Places.{has, word_at}
 use Rattle.heap_space.specs.Memory.{Memory}
 use Rattle.heap_space.specs.Extents.{Extent, Each, KeepsWords, KeepsOutside}
 use Rattle.size_pages.specs.Headers.{RiseByPlace}
-use Rattle.size_pages.specs.Sweeping.{is_dead}
+use Rattle.object_header.specs.Words.{survives_sweep}
 use Rattle.old_space.specs.Calls.{BeginsSweep}
 use Rattle.old_space.specs.HasBlocks.{HasBlocks, KeepsSizes}
 use Rattle.object_model.specs.Sets.{is_in}
@@ -64,7 +64,7 @@ AreReadable m blocks = Each (λ x. IsTrue (has m.blocks x.0)) blocks
 
 -- whether the object in a block was not visited
 abbrev pub is_dead_in : Memory → Extent → Bool
-is_dead_in m x = is_dead (word_at m.blocks x.0)
+is_dead_in m x = not (survives_sweep (word_at m.blocks x.0))
 
 -- the birth of the object in a block, and whether its type has a destructor
 abbrev pub birth_in : Memory → Extent → ℕ

@@ -1,15 +1,15 @@
 //! The lists of what is condemned at the end of marking.
-ghost use Rattle.std.specs.Prelude.{◌≡◌, ◌+◌, ◌++◌, ◌<◌, ◌^◌, ℕ, List, IsTrue, OnOk, map, filter, sum_by};
+ghost use Rattle.std.specs.Prelude.{◌≡◌, ◌+◌, ◌++◌, ◌<◌, ◌^◌, ℕ, List, IsTrue, OnOk, map, filter, not, sum_by};
 ghost use Rattle.heap_space.specs.Extents.{Extent};
 ghost use Rattle.heap_space.specs.Places.{has, word_at};
-ghost use Rattle.size_pages.specs.Sweeping.{is_dead as is_dead_word};
+ghost use Rattle.object_header.specs.Words.{survives_sweep};
 ghost use Rattle.old_space.specs.Headers.{HasHeaders, StandsWithHeaders};
 ghost use Rattle.object_model.specs.ObjectWords.{info_at};
 ghost use Rattle.object_view.specs.Views.{HasObject};
 ghost use Rattle.heap_phases.specs.Ending.{AreDead, AreReadable, HoldObjects, AreDestroyed, AreHusks, places_in, birth_in, is_destroyed, is_dead_in};
 
 use heap_space::Space;
-use object_header::{Flag, is_set};
+use object_header::survives_sweep;
 use object_view::view;
 use old_space::Old;
 use std::alloc::AllocError;
@@ -54,10 +54,9 @@ fn keep_dead(
 /// Whether the block at a place holds a condemned object: it was not visited, and it is no reserved home.
 fn is_dead(space: &Space, place: u64) -> bool
     requires { IsTrue (has space.now.blocks place) }
-    ensures { result ≡ is_dead_word (word_at space.now.blocks place) }
+    ensures { result ≡ not (survives_sweep (word_at space.now.blocks place)) }
 {
-    let word = space.read(place);
-    !is_set(word, Flag::Visited) && !is_set(word, Flag::Shadow)
+    !survives_sweep(space.read(place))
 }
 
 /// Lists the places of the blocks.

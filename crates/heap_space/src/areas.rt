@@ -1,12 +1,12 @@
 //! The three areas of places: the nursery from place 1 on, the arenas side by side from 2^32 on,
 //! and the large blocks from 2^40 on, each where the one added before it ended. A large block that
 //! was given back stays in its list without words, until the list is compacted.
-ghost use Rattle.std.specs.Prelude.{◌≡◌, ℕ, ◌+◌, ◌*◌, ◌/◌, ◌^◌, ◌<◌, ◌≤◌, List, [], ◌∷◌, ◌++◌, length, replicate, slice_index_or, nat_le, IfOk, IfErr, IfSome, IsTrue};
-ghost use Rattle.heap_space.specs.Places.{Placed, covers, has, word_at, with_word, is_base, lies_in_one, run_at, with_run};
+ghost use Rattle.std.specs.Prelude.{◌≡◌, ◌+◌, ◌*◌, ◌/◌, ◌^◌, ◌<◌, ◌≤◌, length, slice_index_or, nat_le, IfOk, IfErr, IfSome, IsTrue};
+ghost use Rattle.heap_space.specs.Places.{Placed, covers, has, word_at, with_word, is_base};
 ghost use Rattle.heap_space.specs.Memory.{fresh_memory, with_arena, with_large};
 ghost use Rattle.heap_space.specs.Order.{IsInOrder};
 ghost use Rattle.heap_space.specs.Areas.{IsShift};
-ghost use Rattle.heap_space.specs.Seats.{IsSeat, AreLarges, PartsAt, has_words, with_emptied, seen};
+ghost use Rattle.heap_space.specs.Seats.{AreLarges, PartsAt, has_words, with_emptied, seen};
 
 use crate::block::{Block, MOST_WORDS};
 use crate::located::Located;
@@ -25,10 +25,10 @@ const END_OF_PLACES: u64 = 9_223_372_036_854_775_808;
 /// Blocks at their places, and where the next ones begin.
 #[derive(Drop)]
 pub(crate) struct Areas {
-    nursery: Block,
-    arenas: Vec<Located>,
-    larges: Vec<Located>,
-    arena_words: u64,
+    pub(crate) nursery: Block,
+    pub(crate) arenas: Vec<Located>,
+    pub(crate) larges: Vec<Located>,
+    pub(crate) arena_words: u64,
     // By how many bits a number is shifted to be divided by `arena_words`, where that is a power of two.
     arena_shift: Option<u32>,
     next_large: u64,
@@ -44,13 +44,6 @@ impl Model for Areas {
     ghost view = { memory_of };
 
     ghost invariant = { HasAreas };
-}
-
-/// A block, by its number in the order of places, and the number of a word in it.
-#[derive(Clone, Copy)]
-struct Seat {
-    block: usize,
-    offset: usize,
 }
 
 impl Areas {
@@ -143,8 +136,33 @@ impl Areas {
         if a < FIRST_ARENA {
             return self.nursery.read((a - 1) as usize);
         }
-        let seat = self.seat(a);
-        self.word(seat)
+        if a < FIRST_LARGE {
+            return self.read_arena(a);
+        }
+        self.read_large(a)
+    }
+
+    // The word at a place of the arenas.
+    #[inline]
+    fn read_arena(&self, a: u64) -> u64
+        requires held { IsTrue (has self.now.blocks a) }
+        requires among { (FIRST_ARENA ≤ a) × (a < FIRST_LARGE) }
+        ensures { result ≡ word_at self.now.blocks a }
+    {
+        let distance = a - FIRST_ARENA;
+        let number = self.arena_number(distance);
+        let offset = distance - number * self.arena_words;
+        self.arenas[number as usize].read(offset as usize)
+    }
+
+    // The word at a place of the large blocks.
+    fn read_large(&self, a: u64) -> u64
+        requires held { IsTrue (has self.now.blocks a) }
+        requires among { FIRST_LARGE ≤ a }
+        ensures { result ≡ word_at self.now.blocks a }
+    {
+        let large = &self.larges[large_index(&self.larges, a)];
+        large.read((a - large.base()) as usize)
     }
 
     /// The word at a is v from then on, and every other word stays.
@@ -157,75 +175,35 @@ impl Areas {
             self.nursery.write((a - 1) as usize, v);
             return;
         }
-        let seat = self.seat(a);
-        self.set_word(seat, v);
+        if a < FIRST_LARGE {
+            return self.write_arena(a, v);
+        }
+        self.write_large(a, v);
     }
 
-    /// Copies n words to the places from `to` on. All are read as they were before.
-    pub(crate) fn copy_words(&mut self, from: u64, to: u64, n: u64)
-        requires source { IsTrue (lies_in_one self.old.blocks from n) }
-        requires target { IsTrue (lies_in_one self.old.blocks to n) }
-        ensures { self.new ≡ record self.old { blocks = with_run self.old.blocks to (run_at self.old.blocks from n) } }
+    // The word at a place of the arenas is v from then on.
+    #[inline]
+    fn write_arena(&mut self, a: u64, v: u64)
+        requires held { IsTrue (has self.old.blocks a) }
+        requires among { (FIRST_ARENA ≤ a) × (a < FIRST_LARGE) }
+        ensures { self.new ≡ record self.old { blocks = with_word self.old.blocks a v } }
     {
-        if n == 0 {
-            return;
-        }
-        if to <= from {
-            self.copy_first_on(from, to, n);
-        } else {
-            self.copy_last_back(from, to, n);
-        }
+        let distance = a - FIRST_ARENA;
+        let number = self.arena_number(distance);
+        let offset = distance - number * self.arena_words;
+        self.arenas[number as usize].write(offset as usize, v);
     }
 
-    // Copies n words to places that are not behind theirs, the first word first.
-    fn copy_first_on(&mut self, from: u64, to: u64, n: u64)
-        requires some { 0 < n }
-        requires source { IsTrue (lies_in_one self.old.blocks from n) }
-        requires target { IsTrue (lies_in_one self.old.blocks to n) }
-        requires order { to ≤ from }
-        ensures { self.new ≡ record self.old { blocks = with_run self.old.blocks to (run_at self.old.blocks from n) } }
+    // The word at a place of the large blocks is v from then on.
+    fn write_large(&mut self, a: u64, v: u64)
+        requires held { IsTrue (has self.old.blocks a) }
+        requires among { FIRST_LARGE ≤ a }
+        ensures { self.new ≡ record self.old { blocks = with_word self.old.blocks a v } }
     {
-        let source = self.run_seat(from, n);
-        let target = self.run_seat(to, n);
-        for k in 0..n {
-            let word = self.word(source.after(k));
-            self.set_word(target.after(k), word);
-        }
-    }
-
-    // Copies n words to places that are not before theirs, the last word first.
-    fn copy_last_back(&mut self, from: u64, to: u64, n: u64)
-        requires some { 0 < n }
-        requires source { IsTrue (lies_in_one self.old.blocks from n) }
-        requires target { IsTrue (lies_in_one self.old.blocks to n) }
-        requires order { from ≤ to }
-        ensures { self.new ≡ record self.old { blocks = with_run self.old.blocks to (run_at self.old.blocks from n) } }
-    {
-        let source = self.run_seat(from, n);
-        let target = self.run_seat(to, n);
-        for step in 0..n {
-            let last = n - 1 - step;
-            let word = self.word(source.after(last));
-            self.set_word(target.after(last), word);
-        }
-    }
-
-    /// The n words from a on are 0 from then on, and every other word stays.
-    pub(crate) fn fill_zero(&mut self, a: u64, n: u64)
-        requires { IsTrue (lies_in_one self.old.blocks a n) }
-        ensures { self.new ≡ record self.old { blocks = with_run self.old.blocks a (replicate n 0) } }
-    {
-        if n == 0 {
-            return;
-        }
-        if a < FIRST_ARENA {
-            self.nursery.fill_zero((a - 1) as usize, n as usize);
-            return;
-        }
-        let first = self.run_seat(a, n);
-        for k in 0..n {
-            self.set_word(first.after(k), 0);
-        }
+        let index = large_index(&self.larges, a);
+        let holder = &mut self.larges[index];
+        let offset = a - holder.base();
+        holder.write(offset as usize, v);
     }
 
     /// Whether a lies in a block.
@@ -244,97 +222,12 @@ impl Areas {
 
     // In which arena the place so many words behind the first arena's lies, if it lies in one.
     #[inline]
-    fn arena_number(&self, distance: u64) -> u64
+    pub(crate) fn arena_number(&self, distance: u64) -> u64
         ensures { result ≡ distance / self.now.arena_words }
     {
         match self.arena_shift {
             Some(shift) => distance >> shift,
             None => distance / self.arena_words,
-        }
-    }
-
-    // The seat of the first of n places that lie in one block.
-    fn run_seat(&self, a: u64, n: u64) -> Seat
-        requires some { 0 < n }
-        requires together { IsTrue (lies_in_one self.now.blocks a n) }
-        ensures seats { (j : ℕ) → j < n → IsSeat self.now.blocks (a + j) result.block (result.offset + j) }
-        ensures small { result.offset + n < 2 ^ 64 }
-    {
-        let _arena_words = self.arena_words;
-        self.seat(a)
-    }
-
-    // The seat of a place.
-    #[inline]
-    fn seat(&self, a: u64) -> Seat
-        requires { IsTrue (has self.now.blocks a) }
-        ensures { IsSeat self.now.blocks a result.block result.offset }
-    {
-        if a < FIRST_ARENA {
-            Seat {
-                block: 0,
-                offset: (a - 1) as usize,
-            }
-        } else if a < FIRST_LARGE {
-            let distance = a - FIRST_ARENA;
-            let number = self.arena_number(distance);
-            Seat {
-                block: number as usize + 1,
-                offset: (distance - number * self.arena_words) as usize,
-            }
-        } else {
-            let index = large_index(&self.larges, a);
-            Seat {
-                block: self.arenas.len() + index + 1,
-                offset: (a - self.larges[index].base()) as usize,
-            }
-        }
-    }
-
-    // The word at a seat.
-    #[inline]
-    fn word(&self, seat: Seat) -> u64
-        requires { (a : ℕ) × IsSeat self.now.blocks a seat.block seat.offset }
-        ensures { (a : ℕ) → IsSeat self.now.blocks a seat.block seat.offset → result ≡ word_at self.now.blocks a }
-    {
-        let arenas = self.arenas.len();
-        if seat.block == 0 {
-            self.nursery.read(seat.offset)
-        } else if seat.block <= arenas {
-            self.arenas[seat.block - 1].read(seat.offset)
-        } else {
-            self.larges[seat.block - 1 - arenas].read(seat.offset)
-        }
-    }
-
-    // The word at a seat is v from then on.
-    #[inline]
-    fn set_word(&mut self, seat: Seat, v: u64)
-        requires { (a : ℕ) × IsSeat self.old.blocks a seat.block seat.offset }
-        ensures { (a : ℕ) → IsSeat self.old.blocks a seat.block seat.offset
-            → self.new ≡ record self.old { blocks = with_word self.old.blocks a v } }
-    {
-        let arenas = self.arenas.len();
-        if seat.block == 0 {
-            self.nursery.write(seat.offset, v);
-        } else if seat.block <= arenas {
-            self.arenas[seat.block - 1].write(seat.offset, v);
-        } else {
-            self.larges[seat.block - 1 - arenas].write(seat.offset, v);
-        }
-    }
-}
-
-impl Seat {
-    // The seat k places further on.
-    #[inline]
-    fn after(self, k: u64) -> Seat
-        requires { self.offset + k < 2 ^ 64 }
-        ensures { result ≡ record { block = self.block; offset = self.offset + k } }
-    {
-        Seat {
-            block: self.block,
-            offset: self.offset + k as usize,
         }
     }
 }
@@ -365,7 +258,7 @@ fn count_to(larges: &[Located], a: u64) -> usize
 }
 
 // The number of the large block that has the place a.
-fn large_index(larges: &[Located], a: u64) -> usize
+pub(crate) fn large_index(larges: &[Located], a: u64) -> usize
     requires larges { AreLarges larges.now }
     requires held { IsTrue (has larges.now a) }
     ensures inside { result < length larges.now }

@@ -3,10 +3,10 @@ use Rattle.std.proofs.Common.{◌≡◌, ℕ, ◌+◌, true, false, List, [], �
 use Rattle.heap_space.specs.Places.{word_at}
 use Rattle.heap_space.specs.Memory.{Memory, without_large}
 use Rattle.heap_space.specs.Extents.{Extent, KeepsOutside}
-use Rattle.object_header.specs.Words.{without_flag}
+use Rattle.object_header.specs.Words.{survives_sweep, without_flag}
 use Rattle.object_header.specs.declared.flags.Flag.TheVariants.{Visited}
 use Rattle.large_objects.specs.Blocks.{begin_elsewhere}
-use Rattle.large_objects.specs.Sweep.{is_kept, unvisited, swept, left_over, freed_births}
+use Rattle.large_objects.specs.Sweep.{unvisited, swept, left_over, freed_births}
 use Rattle.large_objects.specs.Large.{HasBlocks, IsNext}
 use Rattle.large_objects.specs.declared.Large.{Large}
 use Rattle.large_objects.proofs.PlaceLaws.{outside-written}
@@ -30,13 +30,13 @@ first-next large m r live a waiting next h =
 
 -- a block that is kept
 
-pub live-kept : (m : Memory) (a : ℕ) (live : List Extent) → is_kept m a ≡ true → left_over m a live ≡ live
+pub live-kept : (m : Memory) (a : ℕ) (live : List Extent) → survives_sweep (word_at m.blocks a) ≡ true → left_over m a live ≡ live
 live-kept m a live k = rw k refl
 
-pub space-kept : (m : Memory) (a : ℕ) → is_kept m a ≡ true → swept m a ≡ unvisited m a
+pub space-kept : (m : Memory) (a : ℕ) → survives_sweep (word_at m.blocks a) ≡ true → swept m a ≡ unvisited m a
 space-kept m a k = rw k refl
 
-pub births-kept : (m : Memory) (a : ℕ) (old : List ℕ) → is_kept m a ≡ true → old ≡ old ++ freed_births m a
+pub births-kept : (m : Memory) (a : ℕ) (old : List ℕ) → survives_sweep (word_at m.blocks a) ≡ true → old ≡ old ++ freed_births m a
 births-kept m a old k = rw k (sym (append-nil old))
 
 pub outside-kept : (large : Large) (m now : Memory) (a : ℕ) → IsNext large m a → now ≡ unvisited m a
@@ -48,11 +48,11 @@ outside-kept large m now a next e =
 
 -- a block that goes
 
-pub live-freed : (m : Memory) (a : ℕ) (live : List Extent) → is_kept m a ≡ false → left_over m a live ≡ begin_elsewhere a live
+pub live-freed : (m : Memory) (a : ℕ) (live : List Extent) → survives_sweep (word_at m.blocks a) ≡ false → left_over m a live ≡ begin_elsewhere a live
 live-freed m a live k = rw k refl
 
-pub space-freed : (m : Memory) (a : ℕ) → is_kept m a ≡ false → swept m a ≡ without_large m a
+pub space-freed : (m : Memory) (a : ℕ) → survives_sweep (word_at m.blocks a) ≡ false → swept m a ≡ without_large m a
 space-freed m a k = rw k refl
 
-pub births-freed : (m : Memory) (a : ℕ) → is_kept m a ≡ false → freed_births m a ≡ word_at m.blocks (a + 1) ∷ []
+pub births-freed : (m : Memory) (a : ℕ) → survives_sweep (word_at m.blocks a) ≡ false → freed_births m a ≡ word_at m.blocks (a + 1) ∷ []
 births-freed m a k = rw k refl

@@ -1,15 +1,11 @@
 -- What sweeping one large block does.
-use Rattle.std.specs.Prelude.{ℕ, ◌+◌, Bool, ◌||◌, if◌then◌else◌, List, [], ◌∷◌}
+use Rattle.std.specs.Prelude.{ℕ, ◌+◌, if◌then◌else◌, List, [], ◌∷◌}
 use Rattle.heap_space.specs.Memory.{Memory, without_large}
 use Rattle.heap_space.specs.Places.{word_at, with_word}
 use Rattle.heap_space.specs.Extents.{Extent}
-use Rattle.object_header.specs.Words.{has_flag, without_flag}
-use Rattle.object_header.specs.declared.flags.Flag.TheVariants.{Visited, Shadow}
+use Rattle.object_header.specs.Words.{survives_sweep, without_flag}
+use Rattle.object_header.specs.declared.flags.Flag.TheVariants.{Visited}
 use Rattle.large_objects.specs.Blocks.{begin_elsewhere}
-
--- whether a sweep keeps the block at a: its object was visited, or it is a reserved home
-abbrev pub is_kept : Memory → ℕ → Bool
-is_kept m a = has_flag (word_at m.blocks a) Visited || has_flag (word_at m.blocks a) Shadow
 
 -- the memory with the object at a not visited
 abbrev pub unvisited : Memory → ℕ → Memory
@@ -17,12 +13,12 @@ unvisited m a = record m { blocks = with_word m.blocks a (without_flag (word_at 
 
 -- the memory after the block at a was swept
 abbrev pub swept : Memory → ℕ → Memory
-swept m a = if is_kept m a then unvisited m a else without_large m a
+swept m a = if survives_sweep (word_at m.blocks a) then unvisited m a else without_large m a
 
 -- the live blocks then
 abbrev pub left_over : Memory → ℕ → List Extent → List Extent
-left_over m a live = if is_kept m a then live else begin_elsewhere a live
+left_over m a live = if survives_sweep (word_at m.blocks a) then live else begin_elsewhere a live
 
 -- the births freed by it
 abbrev pub freed_births : Memory → ℕ → List ℕ
-freed_births m a = if is_kept m a then [] else word_at m.blocks (a + 1) ∷ []
+freed_births m a = if survives_sweep (word_at m.blocks a) then [] else word_at m.blocks (a + 1) ∷ []

@@ -8,10 +8,10 @@ ghost use Rattle.heap_space.specs.Places.{has, word_at};
 ghost use Rattle.heap_space.specs.Memory.{Memory, with_large, without_large};
 ghost use Rattle.heap_space.specs.Extents.{Extent, begins_between, KeepsOutside, KeepsWords};
 ghost use Rattle.large_objects.specs.Blocks.{larges_of, places_of, begin_elsewhere, without_place, ListsBlocks};
-ghost use Rattle.large_objects.specs.Sweep.{is_kept, unvisited, swept, left_over, freed_births};
+ghost use Rattle.large_objects.specs.Sweep.{unvisited, swept, left_over, freed_births};
 
 use heap_space::Space;
-use object_header::{Flag, clear, is_set};
+use object_header::{Flag, clear, survives_sweep};
 use std::alloc::{AllocError, Global};
 use std::collections::BTreeMap;
 
@@ -129,7 +129,8 @@ impl Large {
         ensures err { OnErr result ((self.new ≡ self.old) × (space.new ≡ space.old) × (freed.new.items ≡ freed.old.items)) }
     {
         let a = self.lowest_waiting(space);
-        if is_kept(space, a) {
+        let header = space.read(a);
+        if survives_sweep(header) {
             self.keep(space, a);
             return Ok(());
         }
@@ -198,13 +199,4 @@ impl Large {
     {
         self.wait_from <= a && a < self.wait_end
     }
-}
-
-/// Whether a sweep keeps the block at a.
-fn is_kept(space: &Space, a: u64) -> bool
-    requires { IsTrue (has space.now.blocks a) }
-    ensures { result ≡ is_kept space.now a }
-{
-    let header = space.read(a);
-    is_set(header, Flag::Visited) || is_set(header, Flag::Shadow)
 }

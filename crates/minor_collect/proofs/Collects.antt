@@ -51,7 +51,7 @@ use Rattle.minor_collect.proofs.GivesAfter.{IsMiddleButGray, queued_change, givi
 use Rattle.minor_collect.proofs.LossTold.{loss_told}
 use Rattle.minor_collect.proofs.PassLaws.{clears_weaks}
 use Rattle.minor_collect.proofs.QueuedFrom.{queues_written, queues_quiet}
-use Rattle.minor_collect.proofs.SameMembers.{same_members, names_differ, part_differs}
+use Rattle.object_model.proofs.SameMembers.{same_members, names_differ, part_differs}
 use Rattle.minor_collect.proofs.Survivors.{survived_mid, survived_lists}
 
 is-marking : (phase : Phase) → (phase ≡ Marking) ⊎ (phase ≡ Marking → ⊥)

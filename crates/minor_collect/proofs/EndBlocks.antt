@@ -18,11 +18,10 @@ use Rattle.old_space.specs.HasBlocks.{HasBlocks}
 use Rattle.old_space.specs.Calls.{still_waiting}
 use Rattle.old_space.specs.declared.Old.{Old}
 use Rattle.old_space.proofs.JoinLaws.{HasBlocks_permuted}
-use Rattle.object_model.specs.Sets.{is_in}
+use Rattle.object_model.specs.Sets.{is_in, AreDifferent}
 use Rattle.object_model.specs.ObjectWords.{words_at}
 use Rattle.heap_parts.specs.Places.{block_at}
 use Rattle.heap_parts.specs.OldSpace.{reserved_block, reserved_blocks, blocks_of, unit_at, is_waiting}
-use Rattle.minor_collect.specs.Ending.{DoDiffer}
 
 -- the homes without that of one object
 abbrev pub without_home : (ℕ → Option ℕ) → ℕ → ℕ → Option ℕ
@@ -44,7 +43,7 @@ module _ (types : Table TypeInfo) (w : ℕ → ℕ) (home : ℕ → Option ℕ) 
   add-block (Some b) xs ys x same = IsPermutation-trans (b ∷ xs) (b ∷ (x ∷ ys)) (x ∷ (b ∷ ys)) (IsPermutation-cons b xs (x ∷ ys) same) (IsPermutation-middle (b ∷ []) x ys)
 
   -- the reserved blocks are that of the object, and those of others
-  reserved-taken : (young : List ℕ) → DoDiffer young → IsTrue (is_in p young)
+  reserved-taken : (young : List ℕ) → AreDifferent young → IsTrue (is_in p young)
       → IsPermutation (reserved_blocks types w home young) ((at, words_at types w p) ∷ reserved_blocks types w (without_home home p) young)
   reserved-taken [] d t = absurd (is_in-nil p t)
   reserved-taken (q ∷ young) d t = elim (eqb_tells q p) [
@@ -67,7 +66,7 @@ module _ (types : Table TypeInfo) (w : ℕ → ℕ) (home : ℕ → Option ℕ) 
         (add-block (reserved_block types w home q) _ _ _ more)
   ]
 
-  pub blocks-taken : (young settled husks : List ℕ) (spare : List Extent) → DoDiffer young → IsTrue (is_in p young)
+  pub blocks-taken : (young settled husks : List ℕ) (spare : List Extent) → AreDifferent young → IsTrue (is_in p young)
       → IsPermutation (blocks_of types w home young settled husks spare) ((at, words_at types w p) ∷ blocks_of types w (without_home home p) young settled husks spare)
   blocks-taken young settled husks spare d t =
       let x : Extent = (at, words_at types w p) in
@@ -81,7 +80,7 @@ module _ (types : Table TypeInfo) (w : ℕ → ℕ) (home : ℕ → Option ℕ) 
       (IsPermutation-append S S (H ++ R) (x ∷ (H ++ Q)) (IsPermutation-refl S) first) (IsPermutation-middle S x (H ++ Q))
 
   -- The home is given back: what `give_back` says of the blocks, of the objects, husks and homes that are left.
-  pub home_given_back : (old new : Old) (m after : Memory) (young settled husks waiting : List ℕ) → DoDiffer young → IsTrue (is_in p young)
+  pub home_given_back : (old new : Old) (m after : Memory) (young settled husks waiting : List ℕ) → AreDifferent young → IsTrue (is_in p young)
       → HasBlocks old m (blocks_of types w home young settled husks []) waiting
       → ((live : List Extent) (waits : List ℕ) → HasBlocks old m ((at, words_at types w p) ∷ live) waits → HasBlocks new after live (still_waiting at waits))
       → HasBlocks new after (blocks_of types w (without_home home p) young settled husks []) (still_waiting at waiting)

@@ -18,7 +18,7 @@ use Rattle.object_view.proofs.FoundLaws.{found-at, ref-from, length-refs, kept_w
 use Rattle.object_view.proofs.LayoutLaws.{info_at-same}
 use Rattle.text_model.specs.declared.line.Phase.{Phase}
 use Rattle.text_model.specs.declared.line.Phase.TheVariants.{Scanning, Marking, Sweeping, Finalizing}
-use Rattle.object_model.specs.Sets.{is_in}
+use Rattle.object_model.specs.Sets.{is_in, AreDifferent}
 use Rattle.object_model.specs.Object.{Object, kept_words}
 use Rattle.store_model.specs.Store.{Store, husk_words, settled_words, unsettled_words}
 use Rattle.object_model.specs.Fields.{refs_of}
@@ -45,10 +45,10 @@ use Rattle.frame_laws.proofs.KeepWords.{firsts-stay}
 use Rattle.heap_parts.proofs.SameLayouts.{SameLayouts, sum-same}
 use Rattle.minor_collect.specs.Carried.{Moved}
 use Rattle.minor_collect.specs.Midway.{Midway, Changing, with_changing, Owes, is_lasting, Placing, OwesNone}
-use Rattle.minor_collect.specs.Ending.{Completes, ended_parts, left_places, stays, DoDiffer}
+use Rattle.minor_collect.specs.Ending.{Completes, ended_parts, left_places, stays}
 use Rattle.minor_collect.proofs.Ended.{survivors_told, old_stay, young_pinned, remains, forgotten, settled-there, settled-lasts, refs_lead, no_both}
 use Rattle.minor_collect.proofs.EndObjects.{end_objects, cleared-first, cleared-keeps}
-use Rattle.minor_collect.proofs.SameMembers.{same_members, names_differ, part_differs}
+use Rattle.object_model.proofs.SameMembers.{same_members, names_differ, part_differs}
 use Rattle.minor_collect.proofs.EndNursery.{end_nursery}
 use Rattle.minor_collect.proofs.EndBirths.{settled_end, rise_part, end_sums, part_words}
 use Rattle.minor_collect.proofs.EndHomes.{end_homes}
@@ -201,7 +201,7 @@ module _ {start : HeapParts} {store : Store} {now new : Changing} {held : List �
   -- the pinned objects are those that are left in the nursery
   pins-young : IsPermutation (pinned_places start) (young_places (left_places store placing.found placing.name placing.places))
   pins-young =
-      let differ : DoDiffer placing.places = names_differ placing.name placing.places (rise-differ 1 start.next (map placing.name placing.places) mid.rise) in
+      let differ : AreDifferent placing.places = names_differ placing.name placing.places (rise-differ 1 start.next (map placing.name placing.places) mid.rise) in
       same_members (pinned_places start) (young_places (left_places store placing.found placing.name placing.places))
       (names_differ placing.name (pinned_places start) (subst (IsDistinct nat_eq) (listed mid.pins).named s.sound.pins.differ))
       (part_differs is_young (left_places store placing.found placing.name placing.places) (part_differs (λ p. stays store (λ x. is_in x placing.found) (placing.name p)) placing.places differ))

@@ -26,7 +26,7 @@ use Rattle.minor_collect.specs.Homes.{GivesHomes}
 use Rattle.minor_collect.proofs.EndBlocks.{without_home, blocks-taken}
 use Rattle.minor_collect.proofs.HomesBack.{homes_step}
 use Rattle.minor_collect.proofs.KeepsMade.{made_none, made_one}
-use Rattle.minor_collect.proofs.SameMembers.{part_differs}
+use Rattle.object_model.proofs.SameMembers.{part_differs}
 use Rattle.minor_collect.proofs.TakeRoom.{lies-kept}
 
 -- the parts once the home is given back

@@ -12,7 +12,7 @@ use Rattle.object_view.specs.Views.{HasObject}
 use Rattle.object_view.proofs.LayoutLaws.{SameAt, keeps-same}
 use Rattle.object_view.proofs.WholeLaws.{has_object-keeps}
 use Rattle.object_model.specs.Layout.{Layout}
-use Rattle.object_model.specs.Sets.{is_in}
+use Rattle.object_model.specs.Sets.{is_in, AreDifferent}
 use Rattle.object_model.specs.ObjectWords.{words_at, layout_at}
 use Rattle.old_space.specs.HasBlocks.{HasBlocks, IsBlock}
 use Rattle.old_space.proofs.JoinLaws.{HasBlocks-apart, HasBlocks-blocks, HasBlocks_untouched}
@@ -29,13 +29,12 @@ use Rattle.minor_collect.specs.Carried.{Moved}
 use Rattle.minor_collect.specs.Midway.{Midway, Changing, with_changing, changing_of, Owes, is_lasting, Placing}
 use Rattle.minor_collect.specs.Calls.{Stage, Spot, Middle}
 use Rattle.minor_collect.specs.Drops.{CanGiveThen}
-use Rattle.minor_collect.specs.Ending.{DoDiffer}
 use Rattle.minor_collect.specs.Gives.{Giving, GivesSome, AreGone}
 use Rattle.minor_collect.specs.Vanished.{FindsVanished}
 use Rattle.minor_collect.specs.WeakPass.{PassesWeaks}
 use Rattle.minor_collect.proofs.Begins.{not-lasting}
 use Rattle.minor_collect.proofs.PassLaws.{nursery_small, listed_weak, passed_layouts, target_inside}
-use Rattle.minor_collect.proofs.SameMembers.{names_differ}
+use Rattle.object_model.proofs.SameMembers.{names_differ}
 
 module _ {start : HeapParts} {store : Store} {remembered : ℕ → ℕ → Bool} {now : Changing} {todo held left : List ℕ} {owes : Owes} {moved : Moved}
     {placing : Placing} (mid : Midway start store remembered now placing todo held left owes moved [])
@@ -122,7 +121,7 @@ module _ {start : HeapParts} {store : Store} {remembered : ℕ → ℕ → Bool}
   pub passed_whole : (q : ℕ) → IsTrue (is_in q placing.places) → HasObject passed.memory start.setup.types q
   passed_whole q t = has_object-keeps now.memory passed.memory start.setup.types q (passed_layouts mid same gray passes q t) passed_lies (mid.words.whole q t)
 
-  pub places_differ : DoDiffer placing.places
+  pub places_differ : AreDifferent placing.places
   places_differ = names_differ placing.name placing.places (rise-differ 1 start.next (map placing.name placing.places) mid.rise)
 
   -- what stays while homes are given back

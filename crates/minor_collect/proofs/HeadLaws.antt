@@ -1,7 +1,9 @@
 -- The first word of a settled object.
 use Rattle.std.proofs.Common.{◌≡◌, ◌≢◌, ℕ, ◌%◌, ◌<◌, Bool, true, false, IsTrue, List, Option, Some, None, refl, sym, ap, ap₂, ◌∙◌, subst, inl, inr, arith, mod-eq_of_lt}
-use Rattle.std.specs.Prelude.{◌↔◌, Contains}
+use Rattle.std.specs.Prelude.{◌↔◌, ◌+◌, ◌-◌, Contains}
 use Rattle.std.proofs.lemmas.Bool.{cases_Bool}
+use Rattle.type_table.specs.declared.info.Shape.{Shape}
+use Rattle.type_table.specs.declared.info.Shape.TheVariants.{Fixed, IntArray, RefArray, Weak}
 use Rattle.type_table.specs.declared.info.TypeInfo.{TypeInfo}
 use Rattle.type_table.specs.Table.{value_at}
 use Rattle.object_header.specs.Words.{IsHeader, has_flag, with_flag}
@@ -9,9 +11,9 @@ use Rattle.object_header.specs.declared.flags.Flag.{Flag}
 use Rattle.object_header.specs.declared.flags.Flag.TheVariants.{Track, Visited, HasShadow, Pinned, HasCards, CardsSet, Free, Shadow, Order1, Order2}
 use Rattle.object_header.proofs.WordLaws.{has_flag-with_flag_same, has_flag-with_flag_other, type_of-with_flag, IsHeader-with_flag}
 use Rattle.object_header.proofs.HeaderLaws.{has_flag-type}
-use Rattle.object_view.specs.declared.fields.ObjView.{ObjView}
-use Rattle.object_view.specs.Views.{view_at}
-use Rattle.object_model.specs.ObjectWords.{info_at, info_or_weak, layout_at, type_id_at}
+use Rattle.object_model.specs.Layout.{layout_of}
+use Rattle.object_model.specs.ObjectWords.{info_at, info_or_weak, layout_at, type_id_at, words_at}
+use Rattle.old_space.specs.HasBlocks.{page_size}
 use Rattle.old_space.specs.Calls.{unit_of}
 use Rattle.heap_parts.specs.Parts.{HeapParts, word_in}
 use Rattle.heap_parts.specs.Headers.{IsSettledHeader, keeps_cards}
@@ -102,17 +104,27 @@ some-info : (got : Option TypeInfo) (info : TypeInfo) → got ≡ Some info → 
 some-info None info e = absurd (let no : ⊥ = cc in no)
 some-info (Some x) info e = let same : x ≡ info = cc in same
 
+-- an array has 3 words before its items, and what is no array of references keeps no cards
+cards_by_words : (card : ℕ) (shape : Shape) (p third : ℕ)
+    → keeps_cards card shape ((layout_of shape p third).words - 3) ≡ keeps_cards card shape (layout_of shape p third).ref_count
+cards_by_words card (Fixed ints refs) p third = refl
+cards_by_words card IntArray p third = refl
+cards_by_words card RefArray p third = ap (λ (k : ℕ). keeps_cards card RefArray k) (let same : 3 + third - 3 ≡ third = omega arith in same)
+cards_by_words card Weak p third = refl
+
 -- what the calls tell makes the first word
-pub head_is : (heap : HeapParts) (p a : ℕ) (v : ObjView) (got : Option TypeInfo) (info : TypeInfo) (cards waits : Bool) (result : ℕ) (waiting : List ℕ)
-    → v ≡ view_at heap.setup.types (word_in heap) p → got ≡ value_at heap.setup.types v.type_id → got ≡ Some info
-    → cards ≡ keeps_cards heap.setup.settings.card info.shape v.ref_count → (IsTrue waits ↔ Contains waiting (unit_of heap.old_blocks a)) → result ≡ settled_word v.type_id cards waits
-    → result ≡ settled_word_of heap p (is_waiting heap.old_blocks.pages.page waiting a)
-head_is heap p a v got info cards waits result waiting is got_is some cards_is tells result_is =
-    let type : v.type_id ≡ type_id_at (word_in heap) p = ap (λ (x : ObjView). x.type_id) is in
-    let count : v.ref_count ≡ (layout_at heap.setup.types (word_in heap) p).ref_count = ap (λ (x : ObjView). x.ref_count) is in
-    let info_is : info ≡ info_at heap.setup.types (word_in heap) p = sym (some-info got info some) ∙ (ap info_or_weak got_is ∙ ap (λ (id : ℕ). info_or_weak (value_at heap.setup.types id)) type) in
-    let cards_same : cards ≡ keeps_cards heap.setup.settings.card (info_at heap.setup.types (word_in heap) p).shape (layout_at heap.setup.types (word_in heap) p).ref_count =
-    cards_is ∙ ap₂ (λ (i : TypeInfo) (n : ℕ). keeps_cards heap.setup.settings.card i.shape n) info_is count in
-    let waits_same : waits ≡ is_waiting heap.old_blocks.pages.page waiting a = same-test waits (is_waiting heap.old_blocks.pages.page waiting a)
-    (λ t. contains_is_in waiting (unit_of heap.old_blocks a) (tells.0 t)) (λ t. tells.1 (Contains-from_is_in (unit_at heap.old_blocks.pages.page a) waiting t)) in
-    result_is ∙ (ap (λ (id : ℕ). settled_word id cards waits) type ∙ ap₂ (λ (b c : Bool). settled_word (type_id_at (word_in heap) p) b c) cards_same waits_same)
+pub head_is : (heap : HeapParts) (p n a id : ℕ) (got : Option TypeInfo) (info : TypeInfo) (cards waits : Bool) (result : ℕ) (waiting : List ℕ)
+    → id ≡ type_id_at (word_in heap) p → n ≡ words_at heap.setup.types (word_in heap) p → got ≡ value_at heap.setup.types id → got ≡ Some info
+    → cards ≡ keeps_cards heap.setup.settings.card info.shape (n - 3) → (IsTrue waits ↔ Contains waiting (unit_of heap.old_blocks a)) → result ≡ settled_word id cards waits
+    → result ≡ settled_word_of heap p (is_waiting (page_size heap.old_blocks) waiting a)
+unfolding layout_at
+head_is heap p n a id got info cards waits result waiting type size got_is some cards_is tells result_is =
+    let page : ℕ = page_size heap.old_blocks in
+    let card : ℕ = heap.setup.settings.card in
+    let shape : Shape = (info_at heap.setup.types (word_in heap) p).shape in
+    let info_is : info ≡ info_at heap.setup.types (word_in heap) p = sym (some-info got info some) ∙ (ap info_or_weak got_is ∙ ap (λ (k : ℕ). info_or_weak (value_at heap.setup.types k)) type) in
+    let cards_same : cards ≡ keeps_cards card shape (layout_at heap.setup.types (word_in heap) p).ref_count =
+    cards_is ∙ ap₂ (λ (i : TypeInfo) (k : ℕ). keeps_cards card i.shape (k - 3)) info_is size ∙ cards_by_words card shape p (word_in heap (p + 2)) in
+    let waits_same : waits ≡ is_waiting page waiting a = same-test waits (is_waiting page waiting a)
+    (λ t. contains_is_in waiting (unit_of heap.old_blocks a) (tells.0 t)) (λ t. tells.1 (Contains-from_is_in (unit_at page a) waiting t)) in
+    result_is ∙ (ap (λ (k : ℕ). settled_word k cards waits) type ∙ ap₂ (λ (b c : Bool). settled_word (type_id_at (word_in heap) p) b c) cards_same waits_same)

@@ -15,7 +15,7 @@ use Rattle.old_space.specs.HasBlocks.{HasBlocks, IsBlock}
 use Rattle.old_space.specs.declared.Old.{Old}
 use Rattle.old_space.proofs.JoinLaws.{HasBlocks_permuted, HasBlocks-apart, HasBlocks-blocks}
 use Rattle.object_model.specs.Layout.{Layout}
-use Rattle.object_model.specs.Sets.{is_in}
+use Rattle.object_model.specs.Sets.{is_in, AreDifferent}
 use Rattle.object_model.specs.ObjectWords.{words_at}
 use Rattle.heap_parts.specs.Places.{is_young, young_places, old_places, block_at}
 use Rattle.heap_parts.specs.OldSpace.{reserved_block, reserved_blocks, blocks_of}
@@ -24,12 +24,12 @@ use Rattle.frame_laws.proofs.KeepWords.{blocks_same}
 use Rattle.frame_laws.proofs.Members.{each-left, each-right}
 use Rattle.object_model.proofs.Members.{filter_map-agree, in-either}
 use Rattle.frame_laws.proofs.PlaceLaws.{young-is_in}
-use Rattle.minor_collect.specs.Ending.{DoDiffer, remaining}
+use Rattle.minor_collect.specs.Ending.{remaining}
 use Rattle.minor_collect.specs.Homes.{KeepsAll, GivesHomes}
 use Rattle.minor_collect.proofs.EndBlocks.{without_home, blocks-taken, waits_after, unit_other}
 use Rattle.minor_collect.proofs.EndStands.{given-by, gives-in}
 use Rattle.minor_collect.proofs.Remaining.{blocks_remaining}
-use Rattle.minor_collect.proofs.SameMembers.{part_differs}
+use Rattle.object_model.proofs.SameMembers.{part_differs}
 use Rattle.minor_collect.proofs.TakeKeeps.{keeps_all}
 use Rattle.minor_collect.proofs.Takes.{same_words}
 
@@ -66,7 +66,7 @@ module _ {types : Table TypeInfo} {page : ℕ} {w : ℕ → ℕ} {pins places hu
     (g : GivesHomes types page w pins places husks waiting_before home now old m waiting) where
   -- One more is given back.
   pub homes_step : (p at most : ℕ) (after_home : ℕ → Option ℕ) (new : Old) (after : Memory) → now p ≡ Some at → IsTrue (is_in p (young_places places)) → is_in p pins ≡ false
-      → DoDiffer places → 0 < page → ((q : ℕ) → IsTrue (is_in q (young_places places)) → q + words_at types w q ≤ most + 1) → most ≤ 1048576
+      → AreDifferent places → 0 < page → ((q : ℕ) → IsTrue (is_in q (young_places places)) → q + words_at types w q ≤ most + 1) → most ≤ 1048576
       → ((live : List Extent) (waits : List ℕ) → HasBlocks old m ((at, words_at types (word_at m.blocks) p) ∷ live) waits → HasBlocks new after live (still_waiting at waits))
       → ((live : List Extent) (waits : List ℕ) → HasBlocks old m ((at, words_at types (word_at m.blocks) p) ∷ live) waits → KeepsWords m after live)
       → KeepsOutside 4294967296 9223372036854775808 m after

@@ -17,7 +17,7 @@ use Rattle.text_model.specs.declared.line.Line.{Line}
 use Rattle.text_model.specs.declared.line.Line.TheVariants.{MinorDone, Cleared, Destroyed, LinkCut}
 use Rattle.text_model.specs.declared.line.LinkEnd.{LinkEnd}
 use Rattle.object_model.specs.Object.{Object}
-use Rattle.object_model.specs.Sets.{is_in}
+use Rattle.object_model.specs.Sets.{is_in, AreDifferent}
 use Rattle.object_model.specs.Shapes.{is_weak_shape}
 use Rattle.store_model.specs.Store.{Store, Struct}
 use Rattle.store_model.specs.Structs.{object_of}
@@ -35,13 +35,12 @@ use Rattle.frame_laws.proofs.Births.{rise-differ}
 use Rattle.frame_laws.proofs.PlaceLaws.{named-by, settled-old}
 use Rattle.minor_collect.specs.Carried.{Moved}
 use Rattle.minor_collect.specs.Midway.{Midway, Changing, Owes, is_lasting, Placing, OwesNone}
-use Rattle.minor_collect.specs.Ending.{DoDiffer}
 use Rattle.minor_collect.specs.Lines.{weaks_left, is_gone_pointer, loses_target, TellsLoss}
 use Rattle.store_model.proofs.Counts.{count_either}
 use Rattle.minor_collect.proofs.EndBirths.{births_named, settled_end, rise_part}
 use Rattle.minor_collect.proofs.EndLinks.{ends_same}
 use Rattle.minor_collect.proofs.NamedObjects.{objects_named, rising_same}
-use Rattle.minor_collect.proofs.SameMembers.{same_members, names_differ, part_differs}
+use Rattle.object_model.proofs.SameMembers.{same_members, names_differ, part_differs}
 use Rattle.minor_collect.proofs.Weaks.{permuted-in, permuted-from, now_place, weak_was, weak_now, gone_lasting, pointer_gone}
 
 lines-of : (f : ℕ → Line) (os : List Object) → map (λ (o : Object). f o.birth) os ≡ map f (map (λ (o : Object). o.birth) os)
@@ -138,7 +137,7 @@ module _ {start : HeapParts} {store : Store} {now : Changing} {held : List ℕ} 
           (λ p t. ap (is_in (s.name p)) s.births.settled_are ∙ settled-old s.name s.places p t s.words.objects.differ))
           ∙ sym (ap length s.births.settled_are ∙ length-map s.name (old_places s.places))))
 
-  module _ (dead : List ℕ) (once : DoDiffer dead) (just : (p : ℕ) → IsTrue (is_in p dead) → IsTrue (is_in p placing.places) × (is_lasting (pinned_places start) p ≡ false))
+  module _ (dead : List ℕ) (once : AreDifferent dead) (just : (p : ℕ) → IsTrue (is_in p dead) → IsTrue (is_in p placing.places) × (is_lasting (pinned_places start) p ≡ false))
       (all : (p : ℕ) → IsTrue (is_in p placing.places) → is_lasting (pinned_places start) p ≡ false → IsTrue (is_in p dead)) where
     -- and how many are gone
     pub dead_count : length (births_where store.kept (vanishes store (λ z. is_in z placing.found))) ≡ length dead

@@ -7,7 +7,7 @@ use Rattle.std.proofs.lemmas.Bool.Decides.{eqb_tells}
 use Rattle.heap_space.specs.Places.{word_at}
 use Rattle.object_view.proofs.ForwardLaws.{header-unmarked}
 use Rattle.object_model.proofs.Members.{filter-part, filter-member, and_first, and_second, and_both}
-use Rattle.object_model.specs.Sets.{is_in}
+use Rattle.object_model.specs.Sets.{is_in, AreDifferent}
 use Rattle.store_model.specs.Store.{Store}
 use Rattle.heap_parts.specs.Nursery.{walked}
 use Rattle.heap_parts.specs.Parts.{HeapParts, pinned_places}
@@ -15,9 +15,8 @@ use Rattle.heap_parts.specs.Places.{is_young}
 use Rattle.frame_laws.proofs.PlaceLaws.{is_in-young}
 use Rattle.minor_collect.specs.Carried.{Moved}
 use Rattle.minor_collect.specs.Midway.{Midway, Changing, Owes, is_lasting, Placing}
-use Rattle.minor_collect.specs.Ending.{DoDiffer}
 use Rattle.minor_collect.proofs.Begins.{not-lasting}
-use Rattle.minor_collect.proofs.SameMembers.{names_differ, part_differs}
+use Rattle.object_model.proofs.SameMembers.{names_differ, part_differs}
 use Rattle.minor_collect.proofs.NamedObjects.{map-id}
 
 -- whether a place that a walk comes to holds what is gone
@@ -29,7 +28,7 @@ module _ {start : HeapParts} {store : Store} {remembered : ℕ → ℕ → Bool}
   abbrev dead : List ℕ
   dead = filter (is_dead_at (word_at now.memory.blocks) (pinned_places start)) (walked mid.carried.walked_are.walks)
 
-  pub dead_once : DoDiffer (filter (is_dead_at (word_at now.memory.blocks) (pinned_places start)) (walked mid.carried.walked_are.walks))
+  pub dead_once : AreDifferent (filter (is_dead_at (word_at now.memory.blocks) (pinned_places start)) (walked mid.carried.walked_are.walks))
   dead_once = part_differs (is_dead_at (word_at now.memory.blocks) (pinned_places start)) (walked mid.carried.walked_are.walks)
       (names_differ (λ x. x) (walked mid.carried.walked_are.walks) (subst (IsDistinct nat_eq) (sym (map-id (walked mid.carried.walked_are.walks))) mid.carried.walked_are.differ))
 

@@ -6,19 +6,19 @@ use Rattle.std.proofs.lemmas.Bool.{ne_eqb}
 use Rattle.std.proofs.lemmas.Map.Keys.{IsDistinct-IsPermutation}
 use Rattle.heap_space.specs.Places.{word_at}
 use Rattle.object_view.specs.Moving.{place_now}
-use Rattle.object_model.proofs.Members.{is_in-head, is_in-tail, is_in-cases, is_in-nil, filter-part, filter-agree, map-same, is_in-named, false-in, not-in}
+use Rattle.object_model.proofs.Members.{is_in-head, is_in-tail, is_in-cases, is_in-nil, filter-part, filter-agree, map-same, is_in-named, not-in}
 use Rattle.object_model.proofs.Distinct.{differ-in}
 use Rattle.object_model.specs.ObjectWords.{info_at}
-use Rattle.object_model.specs.Sets.{is_in}
+use Rattle.object_model.specs.Sets.{is_in, AreDifferent}
 use Rattle.store_model.specs.Store.{Store}
-use Rattle.weak_lists.specs.Cleared.{once_after, births_losing}
+use Rattle.weak_lists.specs.Cleared.{births_losing}
+use Rattle.weak_lists.proofs.Once.{once-different}
 use Rattle.weak_lists.specs.Targets as targets
 use Rattle.heap_parts.specs.Parts.{HeapParts, pinned_places}
 use Rattle.heap_parts.specs.Places.{is_weak_at, RiseBetween}
 use Rattle.frame_laws.proofs.Births.{rise-differ, rise-bounds, rise-end}
 use Rattle.frame_laws.proofs.PlaceLaws.{named-by}
 use Rattle.minor_collect.specs.Carried.{Moved, weak_births, births_read}
-use Rattle.minor_collect.specs.Ending.{DoDiffer}
 use Rattle.minor_collect.specs.Lines.{TellsLoss, loses_target}
 use Rattle.minor_collect.specs.Midway.{Midway, Changing, with_changing, Owes, is_lasting, Placing}
 use Rattle.minor_collect.specs.Walks.{births_destroyed}
@@ -26,7 +26,7 @@ use Rattle.minor_collect.specs.WeakPass.{PassesWeaks}
 use Rattle.minor_collect.proofs.EndBirths.{rise_part}
 use Rattle.minor_collect.proofs.NamedObjects.{weak_named, eq-flips}
 use Rattle.minor_collect.proofs.PassLaws.{left_are, listed_weak, gone_same, target_pointer}
-use Rattle.minor_collect.proofs.SameMembers.{names_differ, part_differs}
+use Rattle.object_model.proofs.SameMembers.{names_differ, part_differs}
 use Rattle.minor_collect.proofs.Weaks.{now_place, permuted-from}
 
 -- a member stands at an index
@@ -58,7 +58,7 @@ rise_sorted least next (x ∷ xs) s d within fits =
     )
 
 -- births of places that differ, by names that do
-distinct-named : (name : ℕ → ℕ) (ps : List ℕ) → DoDiffer ps → ((p q : ℕ) → IsTrue (is_in p ps) → IsTrue (is_in q ps) → name p ≡ name q → p ≡ q) → IsDistinct nat_eq (map name ps)
+distinct-named : (name : ℕ → ℕ) (ps : List ℕ) → AreDifferent ps → ((p q : ℕ) → IsTrue (is_in p ps) → IsTrue (is_in q ps) → name p ≡ name q → p ≡ q) → IsDistinct nat_eq (map name ps)
 unfolding IsDistinct
 distinct-named name [] d apart = tt
 distinct-named name (p ∷ ps) d apart = (all-apart ps (λ q t. t), distinct-named name ps d.1 (λ a b t u. apart a b (is_in-tail a p ps t) (is_in-tail b p ps u)))
@@ -70,21 +70,12 @@ distinct-named name (p ∷ ps) d apart = (all-apart ps (λ q t. t), distinct-nam
         differs : (q : ℕ) → IsTrue (is_in q ps) → nat_eq (name p) (name q) ≡ false
         differs q t = ne_eqb (name p) (name q) (λ e. absurd (let same : p ≡ q = apart p q (is_in-head p ps) (is_in-tail q p ps t) e in not-in p ps d.0 (subst (λ (k : ℕ). IsTrue (is_in k ps)) (sym same) t)))
 
--- each member of a list that differs stays
-once-all : (seen xs : List ℕ) → ((x : ℕ) → IsTrue (is_in x xs) → is_in x seen ≡ false) → DoDiffer xs → once_after seen xs ≡ xs
-once-all seen [] out d = refl
-once-all seen (x ∷ xs) out d = rw (out x (is_in-head x xs)) (ap (λ (l : List ℕ). x ∷ l) (once-all (x ∷ seen) xs
-    (λ y t. false-in y (x ∷ seen) (λ u. elim (is_in-cases y x seen u) [
-      | inl e ↦ not-in x xs d.0 (subst (λ (k : ℕ). IsTrue (is_in k xs)) e t)
-      | inr v ↦ not-in y seen (out y (is_in-tail y x xs t)) v
-    ])) d.1))
-
 module _ {start : HeapParts} {store : Store} {remembered : ℕ → ℕ → Bool} {now : Changing} {todo held left : List ℕ} {owes : Owes} {moved : Moved}
     {placing : Placing} (mid : Midway start store remembered now placing todo held left owes moved [])
     {passed : HeapParts} {cleared : List ℕ} (same : now.weaks ≡ start.weaks) (gray : List ℕ)
     (passes : PassesWeaks (with_changing start (record now { gray = gray })) passed [] cleared) where
   -- births of objects lie before the next one, and are distinct where the places differ
-  births-rise : (ps births : List ℕ) → DoDiffer ps → ((p : ℕ) → IsTrue (is_in p ps) → IsTrue (is_in p placing.places)) → IsPermutation (map (λ p. word_at now.memory.blocks (p + 1)) ps) births → IsNonDecreasing births
+  births-rise : (ps births : List ℕ) → AreDifferent ps → ((p : ℕ) → IsTrue (is_in p ps) → IsTrue (is_in p placing.places)) → IsPermutation (map (λ p. word_at now.memory.blocks (p + 1)) ps) births → IsNonDecreasing births
       → RiseBetween 1 births start.next
   births-rise ps births differ among are sorted =
       let named : map placing.name ps ≡ map (λ p. word_at now.memory.blocks (p + 1)) ps = map-same placing.name (λ p. word_at now.memory.blocks (p + 1)) ps (λ p t. mid.words.objects.named p (among p t)) in
@@ -103,22 +94,22 @@ module _ {start : HeapParts} {store : Store} {remembered : ℕ → ℕ → Bool}
   map-twice (p ∷ ps) among = ap₂ (λ (b : ℕ) (bs : List ℕ). b ∷ bs) (now_place mid.words.objects mid.words.moving p (among p (is_in-head p ps))).1
       (map-twice ps (λ q t. among q (is_in-tail q p ps t)))
 
-  weaks-differ : DoDiffer (map (place_now (word_at now.memory.blocks)) start.weaks)
+  weaks-differ : AreDifferent (map (place_now (word_at now.memory.blocks)) start.weaks)
   weaks-differ =
       let rises = rise_part placing.name (is_weak_at start.setup.types (word_at now.memory.blocks)) 1 start.next placing.places mid.rise in
       let born : IsDistinct nat_eq (weak_births store.kept) = subst (IsDistinct nat_eq) (sym (weak_named mid.words.objects)) (rise-differ 1 start.next _ rises) in
       let read : IsDistinct nat_eq (births_read start start.weaks) = IsDistinct-IsPermutation nat_eq eq-flips (weak_births store.kept) (births_read start start.weaks) mid.carried.weak_are born in
       names_differ placing.name (map (place_now (word_at now.memory.blocks)) start.weaks) (subst (IsDistinct nat_eq) (sym (map-twice start.weaks mid.carried.weaks_are.there ∙ sym mid.carried.weaks_are.named)) read)
 
-  left-differ : DoDiffer passed.weaks
-  left-differ = subst DoDiffer (sym (left_are mid same gray passes)) (part_differs (λ q. is_lasting (pinned_places start) q) (map (place_now (word_at now.memory.blocks)) start.weaks) weaks-differ)
+  left-differ : AreDifferent passed.weaks
+  left-differ = subst AreDifferent (sym (left_are mid same gray passes)) (part_differs (λ q. is_lasting (pinned_places start) q) (map (place_now (word_at now.memory.blocks)) start.weaks) weaks-differ)
 
   -- the births of those that lose their targets
   losing-are : births_losing start.setup.types (word_at now.memory.blocks) (targets.is_gone start.nursery.words (word_at now.memory.blocks)) passed.weaks
       ≡ map (λ p. word_at now.memory.blocks (p + 1)) (filter (loses_target start.setup.types (word_at now.memory.blocks) (pinned_places start)) passed.weaks)
   losing-are =
       ap (λ (xs : List ℕ). map (λ (p : ℕ). word_at now.memory.blocks (p + 1)) (filter (λ (p : ℕ). targets.is_gone start.nursery.words (word_at now.memory.blocks) (targets.target_at start.setup.types (word_at now.memory.blocks) p)) xs))
-      (once-all [] passed.weaks (λ x t. refl) left-differ)
+      (once-different passed.weaks left-differ)
       ∙ ap (map (λ (p : ℕ). word_at now.memory.blocks (p + 1)))
       (filter-agree (λ (p : ℕ). targets.is_gone start.nursery.words (word_at now.memory.blocks) (targets.target_at start.setup.types (word_at now.memory.blocks) p))
       (loses_target start.setup.types (word_at now.memory.blocks) (pinned_places start)) passed.weaks
@@ -128,7 +119,7 @@ module _ {start : HeapParts} {store : Store} {remembered : ℕ → ℕ → Bool}
   cleared-told = subst (λ (xs : List ℕ). IsPermutation xs cleared) losing-are (subst (IsPermutation _) (sym passes.told.behind) passes.told.just)
 
   -- What the lines ask for.
-  pub loss_told : (dead destroyed : List ℕ) → DoDiffer dead → ((p : ℕ) → IsTrue (is_in p dead) → IsTrue (is_in p placing.places) × (is_lasting (pinned_places start) p ≡ false))
+  pub loss_told : (dead destroyed : List ℕ) → AreDifferent dead → ((p : ℕ) → IsTrue (is_in p dead) → IsTrue (is_in p placing.places) × (is_lasting (pinned_places start) p ≡ false))
       → ((p : ℕ) → IsTrue (is_in p placing.places) → is_lasting (pinned_places start) p ≡ false → IsTrue (is_in p dead))
       → IsPermutation (births_destroyed (with_changing start now) dead) destroyed → IsNonDecreasing destroyed
       → TellsLoss start.setup.types (word_at now.memory.blocks) (pinned_places start) placing.places start.weaks start.next dead cleared destroyed

@@ -11,11 +11,10 @@ use Rattle.type_table.specs.Table.{Table}
 use Rattle.heap_space.specs.Extents.{Extent}
 use Rattle.object_model.proofs.Members.{map-same, is_in-head, is_in-tail, is_in-cases, is_in-nil, filter_map-agree, not-in}
 use Rattle.object_view.proofs.MoveLaws.{moved_to, moved_to-here, moved_to-other}
-use Rattle.object_model.specs.Sets.{is_in}
+use Rattle.object_model.specs.Sets.{is_in, AreDifferent}
 use Rattle.object_model.specs.ObjectWords.{words_at}
 use Rattle.heap_parts.specs.Places.{is_young, young_places, old_places, block_at}
 use Rattle.heap_parts.specs.OldSpace.{reserved_block, reserved_blocks, blocks_of}
-use Rattle.minor_collect.specs.Ending.{DoDiffer}
 use Rattle.minor_collect.proofs.EndBlocks.{without_home}
 
 module _ (types : Table TypeInfo) (v w : ℕ → ℕ) (p a : ℕ) (young : is_young p ≡ true) (far : is_young a ≡ false) (size : words_at types v a ≡ words_at types w p) where
@@ -42,7 +41,7 @@ module _ (types : Table TypeInfo) (v w : ℕ → ℕ) (p a : ℕ) (young : is_yo
   ]
 
   -- the blocks of settled objects, and one more
-  old-moved : (ps : List ℕ) → DoDiffer ps → IsTrue (is_in p ps) → ((k : ℕ) → IsTrue (is_in k ps) → k ≢ p → words_at types v k ≡ words_at types w k)
+  old-moved : (ps : List ℕ) → AreDifferent ps → IsTrue (is_in p ps) → ((k : ℕ) → IsTrue (is_in k ps) → k ≢ p → words_at types v k ≡ words_at types w k)
       → IsPermutation ((a, words_at types w p) ∷ map (block_at types w) (old_places ps)) (map (block_at types v) (old_places (map (moved_to p a) ps)))
   old-moved [] d t same = absurd (is_in-nil p t)
   old-moved (q ∷ ps) d t same = elim (eqb_tells q p) [
@@ -105,7 +104,7 @@ module _ (types : Table TypeInfo) (v w : ℕ → ℕ) (p a : ℕ) (young : is_yo
       ]
 
   -- All blocks after the move: those of before without the home of p, and the one where p is now.
-  pub blocks_moved : (home after : ℕ → Option ℕ) (ps husks : List ℕ) → DoDiffer ps → IsTrue (is_in p ps) → ((q : ℕ) → q ≢ p → after q ≡ home q)
+  pub blocks_moved : (home after : ℕ → Option ℕ) (ps husks : List ℕ) → AreDifferent ps → IsTrue (is_in p ps) → ((q : ℕ) → q ≢ p → after q ≡ home q)
       → ((k : ℕ) → IsTrue (is_in k ps) → k ≢ p → words_at types v k ≡ words_at types w k) → ((q : ℕ) → IsTrue (is_in q husks) → words_at types v q ≡ words_at types w q)
       → IsPermutation ((a, words_at types w p) ∷ blocks_of types w (without_home home p) (young_places ps) (old_places ps) husks [])
       (blocks_of types v after (young_places (map (moved_to p a) ps)) (old_places (map (moved_to p a) ps)) husks [])

@@ -8,13 +8,12 @@ use Rattle.object_view.proofs.MoveLaws.{moved_to}
 use Rattle.old_space.specs.HasBlocks.{HasBlocks}
 use Rattle.old_space.specs.declared.Old.{Old}
 use Rattle.old_space.proofs.JoinLaws.{HasBlocks_untouched, HasBlocks_permuted}
-use Rattle.object_model.specs.Sets.{is_in}
+use Rattle.object_model.specs.Sets.{is_in, AreDifferent}
 use Rattle.object_model.specs.ObjectWords.{words_at}
 use Rattle.heap_parts.specs.Places.{is_young, young_places, old_places, block_at}
 use Rattle.heap_parts.specs.OldSpace.{blocks_of, reserved_blocks}
 use Rattle.frame_laws.proofs.TakeLaws.{spare_taken}
-use Rattle.minor_collect.specs.Ending.{DoDiffer}
-use Rattle.minor_collect.proofs.SameMembers.{part_differs}
+use Rattle.object_model.proofs.SameMembers.{part_differs}
 use Rattle.minor_collect.proofs.EndBlocks.{without_home, blocks-taken}
 use Rattle.minor_collect.proofs.MoveBlocks.{blocks_moved, no_home}
 use Rattle.frame_laws.proofs.PlaceLaws.{is_in-young}
@@ -24,7 +23,7 @@ pub record MovesBlocks (types : Table TypeInfo) (v w : ℕ → ℕ) (p a : ℕ) 
   pub young : is_young p ≡ true
   pub far : is_young a ≡ false
   pub size : words_at types v a ≡ words_at types w p
-  pub differ : DoDiffer places
+  pub differ : AreDifferent places
   pub there : IsTrue (is_in p places)
   pub others : (q : ℕ) → q ≢ p → after q ≡ home q
   pub same : (q : ℕ) → IsTrue (is_in q places) → q ≢ p → words_at types v q ≡ words_at types w q

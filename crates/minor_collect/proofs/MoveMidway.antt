@@ -17,7 +17,7 @@ use Rattle.text_model.specs.declared.line.Phase.TheVariants.{Scanning, Marking, 
 use Rattle.object_model.specs.Layout.{Layout}
 use Rattle.store_model.specs.Store.{Store}
 use Rattle.store_model.specs.Structs.{Structs}
-use Rattle.object_model.specs.Sets.{is_in}
+use Rattle.object_model.specs.Sets.{is_in, AreDifferent}
 use Rattle.object_model.specs.ObjectWords.{updated, renamed, words_at, layout_at, info_at}
 use Rattle.object_model.specs.Holds.{HoldsObjects, IsPointer}
 use Rattle.object_view.specs.Moving.{moved, IsMoving}
@@ -40,8 +40,7 @@ use Rattle.frame_laws.proofs.Births.{rise-differ}
 use Rattle.frame_laws.proofs.PlaceLaws.{young-is_in, old-is_in, is_in-young, is_in-old}
 use Rattle.minor_collect.specs.Carried.{Moved, one_moved}
 use Rattle.minor_collect.specs.Midway.{Midway, Changing, with_changing, Owes, Follows, Placing, one_settled}
-use Rattle.minor_collect.specs.Ending.{DoDiffer}
-use Rattle.minor_collect.proofs.SameMembers.{names_differ}
+use Rattle.object_model.proofs.SameMembers.{names_differ}
 use Rattle.minor_collect.proofs.EndStands.{given-by, gives-in, firsts-fewer}
 use Rattle.minor_collect.proofs.MoveStep.{CanMove, settled_words_at, step_objects, step_moving, step_rest, step_name, new_name, new_head, step_names, old_cases, young_cases, step_follows, old-after, here, young-p, unpinned-p, head_keeps}
 
@@ -84,7 +83,7 @@ not-held r a none = (go (λ h. h.is_whole) r.held none, go (λ h. has_any h.card
     ]
 
 -- words outside the nursery, where one object came
-sum-moved : (f g : ℕ → ℕ) (p a : ℕ) (ps : List ℕ) → DoDiffer ps → is_young p ≡ true → is_young a ≡ false → f a ≡ g p
+sum-moved : (f g : ℕ → ℕ) (p a : ℕ) (ps : List ℕ) → AreDifferent ps → is_young p ≡ true → is_young a ≡ false → f a ≡ g p
     → ((q : ℕ) → IsTrue (is_in q ps) → q ≢ p → f q ≡ g q) → IsTrue (is_in p ps)
     → sum_by f (old_places (map (moved_to p a) ps)) ≡ sum_by g (old_places ps) + g p
 sum-moved f g p a [] d yp ya size same t = absurd (is_in-nil p t)
@@ -413,14 +412,14 @@ module _ {start : HeapParts} {store : Store} {remembered : ℕ → ℕ → Bool}
             all = λ x t. mid.carried.walked_are.all x (young_cases mid.words.objects mid.words.moving c.can x t).0;
           };
           counted =
-              let differ : DoDiffer placing.places = names_differ placing.name placing.places (rise-differ 1 start.next (map placing.name placing.places) mid.rise) in
+              let differ : AreDifferent placing.places = names_differ placing.name placing.places (rise-differ 1 start.next (map placing.name placing.places) mid.rise) in
               let sum = sum-moved (λ q. 1) (λ q. 1) p a placing.places differ (young-p mid.words.objects mid.words.moving c.can) c.can.far refl (λ q t ne. refl) c.can.room.there in
               let before_are : length (old_places placing.places) ≡ length store.settled + before.objects = mid.carried.counted in
               omega (arith, sum, ones (old_places placing.places), ones (old_places (map (moved_to p a) placing.places)), before_are);
         };
         gray = λ q t. old-after mid.words.objects mid.words.moving c.can q (mid.gray q (subst (λ (l : List ℕ). IsTrue (is_in q l)) gray t));
         moved_words =
-            let differ : DoDiffer placing.places = names_differ placing.name placing.places (rise-differ 1 start.next (map placing.name placing.places) mid.rise) in
+            let differ : AreDifferent placing.places = names_differ placing.name placing.places (rise-differ 1 start.next (map placing.name placing.places) mid.rise) in
             let sum = sum-moved (words_at start.setup.types (word_at new.memory.blocks)) (words_at start.setup.types (word_at now.memory.blocks)) p a placing.places differ
             (young-p mid.words.objects mid.words.moving c.can) c.can.far size-new size-same c.can.room.there in
             omega (arith, sum, mid.moved_words);

@@ -21,7 +21,7 @@ use Rattle.object_view.proofs.LayoutLaws.{laid_out, SameAt, KeepsLayout, keeps-s
 use Rattle.object_view.proofs.CopyLaws.{copy-like}
 use Rattle.object_view.proofs.LeaveLaws.{word_at-moved, after-move, room-moves}
 use Rattle.object_view.proofs.MoveLaws.{moved_to}
-use Rattle.old_space.specs.HasBlocks.{HasBlocks, IsBlock}
+use Rattle.old_space.specs.HasBlocks.{HasBlocks, IsBlock, page_size}
 use Rattle.old_space.proofs.JoinLaws.{HasBlocks-apart, HasBlocks-first, HasBlocks-blocks, HasBlocks_permuted}
 use Rattle.old_space.specs.Calls.{BeginsLive}
 use Rattle.object_view.specs.Views.{HasObject}
@@ -51,7 +51,7 @@ use Rattle.minor_collect.proofs.MoveInto.{MovesBlocks, WritesInto, moved_into_bl
 use Rattle.minor_collect.proofs.MoveMidway.{MovesTo, midway_moves}
 use Rattle.minor_collect.proofs.MoveStep.{CanMove, settled_words_at, head_keeps, step_rest, young_cases}
 use Rattle.minor_collect.proofs.OpenStep.{midway_follows}
-use Rattle.minor_collect.proofs.SameMembers.{names_differ, part_differs}
+use Rattle.object_model.proofs.SameMembers.{names_differ, part_differs}
 use Rattle.minor_collect.proofs.Sizes.{sizes_move}
 use Rattle.minor_collect.proofs.TakeKeeps.{reserved-one}
 use Rattle.minor_collect.proofs.Takes.{free_room}
@@ -98,7 +98,7 @@ pub record RoomFor (stage : Stage) (now : HeapParts) (spot : Spot) (after : ℕ 
 module _ {stage : Stage} {now : HeapParts} {spot : Spot} {taken : List Extent} {p a : ℕ} (head : ℕ) (shadows : map_of.FinMap nat_cmp ℕ)
     (middle : Middle stage now spot taken) (room : RoomFor stage now spot (map_of.get shadows) p a)
     (waits : Waits stage now spot p (words_at stage.start.setup.types (word_in now) p))
-    (head_is : head ≡ settled_word_of now p (is_waiting now.old_blocks.pages.page spot.placing.waiting a)) where
+    (head_is : head ≡ settled_word_of now p (is_waiting (page_size now.old_blocks) spot.placing.waiting a)) where
   abbrev types : Table TypeInfo
   types = stage.start.setup.types
 
@@ -161,9 +161,9 @@ module _ {stage : Stage} {now : HeapParts} {spot : Spot} {taken : List Extent} {
   cards = keeps_cards now.setup.settings.card (info_at now.setup.types w p).shape (layout_at now.setup.types w p).ref_count
 
   abbrev visits : Bool
-  visits = is_waiting now.old_blocks.pages.page spot.placing.waiting a
+  visits = is_waiting (page_size now.old_blocks) spot.placing.waiting a
 
-  word : IsSettledWord head (type_id_at (word_in now) p) (keeps_cards now.setup.settings.card (info_at now.setup.types (word_in now) p).shape (layout_at now.setup.types (word_in now) p).ref_count) (is_waiting now.old_blocks.pages.page spot.placing.waiting a)
+  word : IsSettledWord head (type_id_at (word_in now) p) (keeps_cards now.setup.settings.card (info_at now.setup.types (word_in now) p).shape (layout_at now.setup.types (word_in now) p).ref_count) (is_waiting (page_size now.old_blocks) spot.placing.waiting a)
   word = subst (λ (k : ℕ). IsSettledWord k (type_id_at w p) cards visits) (sym head_is) (settled_word_is (type_id_at w p) cards visits (mod-below (w p)))
 
   can : CanMove types w spot.placing.met spot.placing.places (pinned_places stage.start) p a head
@@ -311,7 +311,7 @@ module _ {stage : Stage} {now : HeapParts} {spot : Spot} {taken : List Extent} {
 
 -- the same with the number of words that the code has
 pub settle_moves : (stage : Stage) (now : HeapParts) (spot : Spot) (taken : List Extent) (p n a head : ℕ) (shadows : map_of.FinMap nat_cmp ℕ) → Middle stage now spot taken
-    → RoomFor stage now spot (map_of.get shadows) p a → Waits stage now spot p n → head ≡ settled_word_of now p (is_waiting now.old_blocks.pages.page spot.placing.waiting a)
+    → RoomFor stage now spot (map_of.get shadows) p a → Waits stage now spot p n → head ≡ settled_word_of now p (is_waiting (page_size now.old_blocks) spot.placing.waiting a)
     → Settled stage now (record now { memory = settled_memory now.memory p n a head; shadows = shadows }) spot p n a
 settle_moves stage now spot taken p n a head shadows middle room waits head_is =
     subst (λ (k : ℕ). Waits stage now spot p k → Settled stage now (record now { memory = settled_memory now.memory p k a head; shadows = shadows }) spot p k a)
@@ -350,6 +350,7 @@ room_home stage now spot p a shadows middle there waits home none others =
 -- what the calls ask for where there is room
 pub record CanMoveWords (stage : Stage) (now : HeapParts) (p n a : ℕ) : Type 0 where
   pub object : HasObject now.memory now.setup.types p
+  pub size : n ≡ words_at now.setup.types (word_in now) p
   pub block : BeginsLive now.old_blocks now.memory a
   pub source : IsTrue (lies_in_one now.memory.blocks p n)
   pub target : IsTrue (lies_in_one now.memory.blocks a n)
@@ -365,6 +366,7 @@ can_move_words stage now spot taken p n a after middle room waits =
     let i = middle.mid.words.inside p (is_in-young spot.placing.places p waits.there (not-lasting (is_young p) _ waits.waits).0) in
     record {
       object = subst (λ (h : HeapParts). HasObject now.memory h.setup.types p) (sym middle.rest) (middle.mid.words.whole p waits.there);
+      size = subst (λ (h : HeapParts). n ≡ words_at h.setup.types w p) (sym middle.rest) waits.size;
       block = record { words = words_at types w p; live = record { others = _; waiting = _; blocks = room.first } };
       source = subst (λ (k : ℕ). IsTrue (lies_in_one now.memory.blocks p k)) (sym size) (middle.mid.words.whole p waits.there).whole;
       target = subst (λ (k : ℕ). IsTrue (lies_in_one now.memory.blocks a k)) (sym size) block.lies;

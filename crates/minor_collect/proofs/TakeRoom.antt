@@ -14,7 +14,7 @@ use Rattle.heap_space.proofs.ExtentLaws.{lies_in_one-extents, lies_in_one-betwee
 use Rattle.object_view.specs.Moving.{HasLeft}
 use Rattle.object_view.proofs.InitLaws.{lies-part}
 use Rattle.object_view.proofs.LayoutLaws.{keeps-same, laid_out}
-use Rattle.old_space.specs.HasBlocks.{HasBlocks, IsBlock, greatest_small}
+use Rattle.old_space.specs.HasBlocks.{HasBlocks, IsBlock, greatest_small, page_size}
 use Rattle.old_space.specs.declared.Old.{Old}
 use Rattle.old_space.proofs.JoinLaws.{HasBlocks-blocks}
 use Rattle.object_model.specs.Layout.{Layout}
@@ -54,7 +54,7 @@ live_in stage now spot = blocks_of stage.start.setup.types (word_in now) (home_i
 -- what `take` says of the numbers that parts were made with
 pub record KeepsNumbers (m new : Memory) (old after : Old) : Type 0 where
   pub arena : new.arena_words ≡ m.arena_words
-  pub page : after.pages.page ≡ old.pages.page
+  pub page : page_size after ≡ page_size old
   pub small : greatest_small after ≡ greatest_small old
 
 module _ {stage : Stage} {now : HeapParts} {spot : Spot} (middle : Middle stage now spot []) (memory : Memory) (after : Old) (a n : ℕ)

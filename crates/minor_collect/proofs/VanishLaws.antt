@@ -3,11 +3,10 @@ use Rattle.std.proofs.Common.{◌≡◌, ℕ, false, IsTrue, List, [], filter, s
 use Rattle.std.specs.List.Sorted.{IsPermutation, IsNonDecreasing}
 use Rattle.heap_space.specs.Places.{word_at}
 use Rattle.object_view.specs.Views.{HasObject}
-use Rattle.object_model.specs.Sets.{is_in}
+use Rattle.object_model.specs.Sets.{is_in, AreDifferent}
 use Rattle.heap_parts.specs.Nursery.{walked}
 use Rattle.heap_parts.specs.Parts.{HeapParts, pinned_places}
 use Rattle.minor_collect.specs.Midway.{is_lasting}
-use Rattle.minor_collect.specs.Ending.{DoDiffer}
 use Rattle.minor_collect.specs.Calls.{Stage, Spot, Middle}
 use Rattle.minor_collect.specs.Walks.{AreWalksBy, size_in, is_gone_at, births_destroyed}
 use Rattle.minor_collect.specs.Vanished.{FindsVanished}
@@ -31,7 +30,7 @@ module _ {stage : Stage} {now : HeapParts} {spot : Spot} (middle : Middle stage 
 
   pub finds_vanished : {destroyed : List ℕ} → IsPermutation (births_destroyed now dead) destroyed → IsNonDecreasing destroyed → FindsVanished stage spot now dead destroyed
   finds_vanished {destroyed = destroyed} are rise = record {
-    once = subst DoDiffer (sym are-dead) (dead_once middle.mid);
+    once = subst AreDifferent (sym are-dead) (dead_once middle.mid);
     just = just;
     all = λ p t e. subst (λ (xs : List ℕ). IsTrue (is_in p xs)) (sym are-dead) (dead_all middle.mid p t e);
     destroyed_are = are;

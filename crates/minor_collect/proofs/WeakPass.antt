@@ -13,7 +13,7 @@ use Rattle.heap_space.specs.Places.{word_at}
 use Rattle.object_view.specs.Moving.{place_now}
 use Rattle.object_model.proofs.Members.{is_in-head, is_in-tail, filter-part, filter-member, filter-agree}
 use Rattle.object_view.proofs.LayoutLaws.{laid_out, weak-at, SameAt, info_at-same}
-use Rattle.object_model.specs.Sets.{is_in}
+use Rattle.object_model.specs.Sets.{is_in, AreDifferent}
 use Rattle.object_model.specs.Shapes.{is_weak_shape}
 use Rattle.store_model.specs.Store.{Store}
 use Rattle.object_model.specs.ObjectWords.{renamed, info_at, layout_at, words_at}
@@ -25,13 +25,13 @@ use Rattle.frame_laws.proofs.Births.{rise-differ}
 use Rattle.frame_laws.proofs.PlaceLaws.{named-by}
 use Rattle.minor_collect.specs.Carried.{Moved, weak_births, births_read}
 use Rattle.minor_collect.specs.Midway.{Midway, Changing, Owes, is_lasting, Placing, OwesNone}
-use Rattle.minor_collect.specs.Ending.{IsCleared, left_places, stays, DoDiffer}
+use Rattle.minor_collect.specs.Ending.{IsCleared, left_places, stays}
 use Rattle.minor_collect.specs.Lines.{is_gone_pointer, ClearsWeaks}
 use Rattle.minor_collect.proofs.Ended.{stays_lasting, remains}
 use Rattle.minor_collect.proofs.EndBirths.{rise_part}
 use Rattle.minor_collect.proofs.EndObjects.{cleared-keeps}
 use Rattle.minor_collect.proofs.NamedObjects.{weak_named, eq-flips}
-use Rattle.minor_collect.proofs.SameMembers.{same_members, names_differ, part_differs}
+use Rattle.object_model.proofs.SameMembers.{same_members, names_differ, part_differs}
 use Rattle.minor_collect.proofs.Weaks.{now_place, weak_was, weak_now, pointer_gone}
 
 pub weak-shape : (k : Shape) → is_weak_shape k ≡ true → k ≡ Weak
@@ -172,7 +172,7 @@ module _ {start : HeapParts} {store : Store} {remembered : ℕ → ℕ → Bool}
   map-twice (p ∷ ps) among = ap₂ (λ (b : ℕ) (bs : List ℕ). b ∷ bs) (now_place mid.words.objects mid.words.moving p (among p (is_in-head p ps))).1
       (map-twice ps (λ q t. among q (is_in-tail q p ps t)))
 
-  weaks-differ : DoDiffer (map (place_now (word_at now.memory.blocks)) start.weaks)
+  weaks-differ : AreDifferent (map (place_now (word_at now.memory.blocks)) start.weaks)
   weaks-differ =
       let rises = rise_part placing.name (is_weak_at start.setup.types (word_at now.memory.blocks)) 1 start.next placing.places mid.rise in
       let born : IsDistinct nat_eq (weak_births store.kept) = subst (IsDistinct nat_eq) (sym (weak_named mid.words.objects)) (rise-differ 1 start.next _ rises) in
@@ -182,7 +182,7 @@ module _ {start : HeapParts} {store : Store} {remembered : ℕ → ℕ → Bool}
   -- The list is that of the weak objects that stay.
   pub weak_listed : IsPermutation (filter (is_weak_at start.setup.types after) (left_places store placing.found placing.name placing.places)) left
   weak_listed =
-      let differ : DoDiffer placing.places = names_differ placing.name placing.places (rise-differ 1 start.next (map placing.name placing.places) mid.rise) in
+      let differ : AreDifferent placing.places = names_differ placing.name placing.places (rise-differ 1 start.next (map placing.name placing.places) mid.rise) in
       let same : filter (is_weak_at start.setup.types after) (left_places store placing.found placing.name placing.places) ≡ filter (is_weak_at start.setup.types (word_at now.memory.blocks)) (left_places store placing.found placing.name placing.places) =
       filter-agree (is_weak_at start.setup.types after) (is_weak_at start.setup.types (word_at now.memory.blocks)) (left_places store placing.found placing.name placing.places)
       (λ p t. ap (λ (i : TypeInfo). is_weak_shape i.shape) (info_at-same start.setup.types after (word_at now.memory.blocks) p (cleared-keeps (weak_cleared p t)).type_stays)) in
@@ -190,7 +190,7 @@ module _ {start : HeapParts} {store : Store} {remembered : ℕ → ℕ → Bool}
       (same_members (filter (is_weak_at start.setup.types (word_at now.memory.blocks)) (left_places store placing.found placing.name placing.places)) left
       (part_differs (is_weak_at start.setup.types (word_at now.memory.blocks)) (left_places store placing.found placing.name placing.places)
       (part_differs (λ p. stays store (λ y. is_in y placing.found) (placing.name p)) placing.places differ))
-      (subst DoDiffer (sym c.left_are) (part_differs (λ q. is_lasting (pinned_places start) q) (map (place_now (word_at now.memory.blocks)) start.weaks) weaks-differ))
+      (subst AreDifferent (sym c.left_are) (part_differs (λ q. is_lasting (pinned_places start) q) (map (place_now (word_at now.memory.blocks)) start.weaks) weaks-differ))
       (λ p t.
       let part = filter-part (is_weak_at start.setup.types (word_at now.memory.blocks)) (left_places store placing.found placing.name placing.places) p t in
       let there = remaining-there p part.0 in in-left p there.0 there.1 part.1)

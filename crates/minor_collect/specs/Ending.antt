@@ -1,5 +1,5 @@
 -- The words and parts at the end of a minor collection, by the survivors.
-use Rattle.std.specs.Prelude.{◌≡◌, ◌≢◌, ℕ, ◌+◌, ◌<◌, ◌≤◌, ◌⊎◌, Bool, false, not, IsTrue, List, [], ◌∷◌, map, filter, filter_map, length, nat_lt, Some, sum_by}
+use Rattle.std.specs.Prelude.{◌≡◌, ◌≢◌, ℕ, ◌+◌, ◌<◌, ◌≤◌, ◌⊎◌, Bool, not, IsTrue, List, [], ◌∷◌, map, filter, filter_map, length, nat_lt, Some, sum_by}
 use Rattle.type_table.specs.declared.info.TypeInfo.{TypeInfo}
 use Rattle.type_table.specs.declared.info.Shape.TheVariants.{Weak}
 use Rattle.type_table.specs.Table.{Table}
@@ -43,11 +43,6 @@ pub record IsCleared (types : Table TypeInfo) (v w : ℕ → ℕ) (gone : ℕ �
 abbrev pub AreAscending : ℕ → List ℕ → Type 0
 AreAscending from [] = Unit {0}
 AreAscending from (p ∷ ps) = (from ≤ p) × AreAscending (p + 1) ps
-
--- none of them twice
-abbrev pub DoDiffer : List ℕ → Type 0
-DoDiffer [] = Unit {0}
-DoDiffer (x ∷ xs) = (is_in x xs ≡ false) × DoDiffer xs
 
 -- the parts at the end, where these changed, and the numbers of words are these
 abbrev pub ended_parts : HeapParts → Changing → NurseryLayout → ℕ → ℕ → HeapParts

@@ -5,11 +5,10 @@ use Rattle.heap_space.specs.Places.{lies_in_one}
 use Rattle.object_view.specs.Views.{HasObject}
 use Rattle.old_space.specs.HasBlocks.{KeepsSizes}
 use Rattle.old_space.specs.declared.Old.{Old}
-use Rattle.object_model.specs.Sets.{is_in}
+use Rattle.object_model.specs.Sets.{is_in, AreDifferent}
 use Rattle.object_model.specs.ObjectWords.{words_at}
 use Rattle.heap_parts.specs.Parts.{HeapParts, home_in}
 use Rattle.heap_parts.specs.Places.{young_places}
-use Rattle.minor_collect.specs.Ending.{DoDiffer}
 use Rattle.minor_collect.specs.Homes.{GivesHomes}
 
 -- What stays while homes are given back: the words before, the pinned objects, where objects and husks are, the units that waited and
@@ -27,7 +26,7 @@ pub record Giving : Type 0 where
 pub record GivesSome (giving : Giving) (now : HeapParts) : Type 0 where
   pub waiting : List ℕ
   pub gives : GivesHomes now.setup.types now.setup.settings.page giving.word giving.pins giving.places giving.husks giving.waiting giving.home (home_in now) now.old_blocks now.memory waiting
-  pub differ : DoDiffer giving.places
+  pub differ : AreDifferent giving.places
   pub page : 0 < now.setup.settings.page
   pub inside : (q : ℕ) → IsTrue (is_in q (young_places giving.places)) → q + words_at now.setup.types giving.word q ≤ giving.most + 1
   pub small : giving.most ≤ 1048576

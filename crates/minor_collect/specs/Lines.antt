@@ -4,11 +4,10 @@ use Rattle.std.specs.List.Sorted.{IsPermutation}
 use Rattle.type_table.specs.declared.info.TypeInfo.{TypeInfo}
 use Rattle.type_table.specs.Table.{Table}
 use Rattle.object_view.specs.Moving.{place_now}
-use Rattle.object_model.specs.Sets.{is_in}
+use Rattle.object_model.specs.Sets.{is_in, AreDifferent}
 use Rattle.object_model.specs.ObjectWords.{info_at, layout_at}
 use Rattle.heap_parts.specs.Places.{RiseBetween}
 use Rattle.minor_collect.specs.Midway.{is_lasting}
-use Rattle.minor_collect.specs.Ending.{DoDiffer}
 
 -- where the weak objects are that stay
 abbrev pub weaks_left : (ℕ → ℕ) → List ℕ → List ℕ → List ℕ
@@ -24,7 +23,7 @@ loses_target types word pins p = is_gone_pointer word pins (word (layout_at type
 
 -- dead: the places of what is gone; cleared and destroyed: births that are printed
 pub record TellsLoss (types : Table TypeInfo) (word : ℕ → ℕ) (pins places weaks : List ℕ) (next : ℕ) (dead cleared destroyed : List ℕ) : Type 0 where
-  pub once : DoDiffer dead
+  pub once : AreDifferent dead
   pub just : (p : ℕ) → IsTrue (is_in p dead) → IsTrue (is_in p places) × (is_lasting pins p ≡ false)
   pub all : (p : ℕ) → IsTrue (is_in p places) → is_lasting pins p ≡ false → IsTrue (is_in p dead)
   pub destroyed_rise : RiseBetween 1 destroyed next

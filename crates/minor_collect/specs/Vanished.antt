@@ -1,10 +1,9 @@
 -- What is gone once nothing moves any more, as the code lists it.
 use Rattle.std.specs.Prelude.{◌≡◌, ℕ, false, IsTrue, List, []}
 use Rattle.std.specs.List.Sorted.{IsPermutation, IsNonDecreasing}
-use Rattle.object_model.specs.Sets.{is_in}
+use Rattle.object_model.specs.Sets.{is_in, AreDifferent}
 use Rattle.heap_parts.specs.Parts.{HeapParts, pinned_places}
 use Rattle.minor_collect.specs.Midway.{is_lasting}
-use Rattle.minor_collect.specs.Ending.{DoDiffer}
 use Rattle.minor_collect.specs.Calls.{Stage, Spot, Middle}
 use Rattle.minor_collect.specs.Walks.{births_destroyed}
 
@@ -16,7 +15,7 @@ pub record IsMidway (now : HeapParts) : Type 0 where
 
 -- what is gone is listed once each, and the births of what of it has a destructor, by rising birth
 pub record FindsVanished (stage : Stage) (spot : Spot) (now : HeapParts) (dead destroyed : List ℕ) : Type 0 where
-  pub once : DoDiffer dead
+  pub once : AreDifferent dead
   pub just : (p : ℕ) → IsTrue (is_in p dead) → IsTrue (is_in p spot.placing.places) × (is_lasting (pinned_places stage.start) p ≡ false)
   pub all : (p : ℕ) → IsTrue (is_in p spot.placing.places) → is_lasting (pinned_places stage.start) p ≡ false → IsTrue (is_in p dead)
   pub destroyed_are : IsPermutation (births_destroyed now dead) destroyed

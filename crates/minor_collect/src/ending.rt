@@ -20,7 +20,7 @@ use crate::moves::{MOVED, is_young, size_of};
 use crate::spans::is_visited;
 use heap_parts::Parts;
 use object_header::{Flag, is_set, type_id};
-use object_view::{ObjView, view};
+use object_view::{ObjView, words_of};
 use remember_cards::Span;
 use std::alloc::AllocError;
 use type_table::TypeInfo;
@@ -229,7 +229,7 @@ fn give_home_back(parts: &mut Parts, p: u64)
     ensures { (giving : Giving) → GivesSome giving parts.old → IsTrue (is_in p (young_places giving.places)) → is_in p giving.pins ≡ false → GaveOne giving parts.old parts.new p }
 {
     if let Some(home) = parts.shadows.take_home(p) {
-        let n = view(&parts.space, &parts.types, p).words;
+        let n = words_of(&parts.space, &parts.types, p);
         parts.old_blocks.give_back(&mut parts.space, home, n);
     }
 }

@@ -1,6 +1,6 @@
 //! References that are followed, and objects that move.
 
-ghost use Rattle.std.specs.Prelude.{◌≡◌, ◌+◌, ◌≤◌, ℕ, List, [], ◌∷◌, None, Some, IfOk, OnOk, IsTrue, ◌≢◌, false};
+ghost use Rattle.std.specs.Prelude.{◌≡◌, ◌+◌, ◌-◌, ◌≤◌, ℕ, List, [], ◌∷◌, None, Some, IfOk, OnOk, IsTrue, ◌≢◌, false};
 ghost use Rattle.object_model.specs.Sets.{is_in};
 ghost use Rattle.object_model.specs.ObjectWords.{words_at};
 ghost use Rattle.rawref_links.specs.Conditions.{HasNoLink};
@@ -8,7 +8,7 @@ ghost use Rattle.heap_space.specs.Extents.{Extent};
 ghost use Rattle.heap_space.specs.Places.{lies_in_one};
 ghost use Rattle.object_model.specs.Holds.{IsPointer};
 ghost use Rattle.object_view.specs.Views.{HasObject};
-ghost use Rattle.old_space.specs.HasBlocks.{HasBlocks};
+ghost use Rattle.old_space.specs.HasBlocks.{HasBlocks, page_size};
 ghost use Rattle.old_space.specs.Calls.{BeginsLive};
 ghost use Rattle.heap_parts.specs.Parts.{home_in, word_in, pinned_places};
 ghost use Rattle.heap_parts.specs.Headers.{keeps_cards as keeps_cards_of};
@@ -21,8 +21,8 @@ ghost use Rattle.minor_collect.specs.Calls.{Stage, Spot, Middle, CanTake, TookRo
 use crate::work::Moving;
 use heap_parts::Parts;
 use heap_space::Space;
-use object_header::{Flag, clear, is_set, set};
-use object_view::view;
+use object_header::{Flag, clear, is_set, set, type_id};
+use object_view::words_of;
 use std::alloc::AllocError;
 use type_table::Shape;
 
@@ -91,7 +91,7 @@ pub(crate) fn size_of(parts: &Parts, p: u64) -> u64
     requires { HasObject parts.now.memory parts.now.setup.types p }
     ensures { result ≡ words_at parts.now.setup.types (word_in parts.now) p }
 {
-    view(&parts.space, &parts.types, p).words
+    words_of(&parts.space, &parts.types, p)
 }
 
 /// Lets the links with the object at p lead to a, where it is now and to which none led. The error is out of memory.
@@ -122,7 +122,7 @@ fn go_home(parts: &mut Parts, p: u64, n: u64, home: u64)
     requires home { home_in parts.old p ≡ Some home }
     ensures { (stage : Stage) (spot : Spot) → Middle stage parts.old spot [] → Waits stage parts.old spot p n → Settled stage parts.old parts.new spot p n home }
 {
-    let head = settled_header(parts, p, home);
+    let head = settled_header(parts, p, n, home);
     move_words(&mut parts.space, p, n, home, head);
     parts.shadows.take_home(p);
 }
@@ -133,7 +133,7 @@ fn settle(parts: &mut Parts, p: u64, n: u64, a: u64)
     requires homeless { home_in parts.old p ≡ None }
     ensures { (stage : Stage) (spot : Spot) → Middle stage parts.old spot ((a, n) ∷ []) → Waits stage parts.old spot p n → Settled stage parts.old parts.new spot p n a }
 {
-    let head = settled_header(parts, p, a);
+    let head = settled_header(parts, p, n, a);
     move_words(&mut parts.space, p, n, a, head);
 }
 
@@ -145,18 +145,21 @@ fn take_room(parts: &mut Parts, n: u64) -> Result<u64, AllocError>
     parts.old_blocks.take(&mut parts.space, n)
 }
 
-/// The first word of the object at p once it is settled at a: writes of references into it are tracked, and where its
+/// The first word of the object at p, of n words, once it is settled at a: writes of references into it are tracked, and where its
 /// block waits to be swept it counts as visited.
-fn settled_header(parts: &Parts, p: u64, a: u64) -> u64
+fn settled_header(parts: &Parts, p: u64, n: u64, a: u64) -> u64
     requires object { HasObject parts.now.memory parts.now.setup.types p }
+    requires words { n ≡ words_at parts.now.setup.types (word_in parts.now) p }
     requires block { BeginsLive parts.now.old_blocks parts.now.memory a }
-    ensures { (live : List Extent) (waiting : List ℕ) → HasBlocks parts.now.old_blocks parts.now.memory live waiting → result ≡ settled_word_of parts.now p (is_waiting parts.now.old_blocks.pages.page waiting a) }
+    ensures { (live : List Extent) (waiting : List ℕ) → HasBlocks parts.now.old_blocks parts.now.memory live waiting → result ≡ settled_word_of parts.now p (is_waiting (page_size parts.now.old_blocks) waiting a) }
 {
-    let v = view(&parts.space, &parts.types, p);
-    let shape = parts.types.get(v.type_id).unwrap().shape;
-    let cards = keeps_cards(parts.settings.card, shape, v.ref_count);
+    // The places of a space are below 2^63.
+    let _ordered = parts.space.arena_words();
+    let type_id = type_id(parts.space.read(p));
+    let shape = parts.types.get(type_id).unwrap().shape;
+    let cards = keeps_cards(parts.settings.card, shape, n);
     let waits = parts.old_blocks.waits(&parts.space, a);
-    header_of(v.type_id, cards, waits)
+    header_of(type_id, cards, waits)
 }
 
 /// The first word of a settled object of a type: whether it keeps cards, and whether it counts as visited.
@@ -175,12 +178,12 @@ fn header_of(type_id: u16, cards: bool, visited: bool) -> u64
     carded
 }
 
-/// Whether an object of so many references keeps cards: an array of more than a card has.
-fn keeps_cards(card: u64, shape: Shape, items: u64) -> bool
-    ensures { result ≡ keeps_cards_of card shape items }
+/// Whether an object of so many words keeps cards: an array of more references than a card has items.
+fn keeps_cards(card: u64, shape: Shape, words: u64) -> bool
+    ensures { result ≡ keeps_cards_of card shape (words - 3) }
 {
     match shape {
-        Shape::RefArray => items > card,
+        Shape::RefArray => words.saturating_sub(3) > card,
         Shape::IntArray | Shape::Fixed { .. } | Shape::Weak => false,
     }
 }

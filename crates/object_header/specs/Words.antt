@@ -1,5 +1,5 @@
 -- A header word as a number: what it says of a type and of flags.
-use Rattle.std.specs.Prelude.{ℕ, ◌+◌, ◌-◌, ◌*◌, ◌<◌, ◌%◌, ◌^◌, Bool, ◌==◌, if◌then◌else◌}
+use Rattle.std.specs.Prelude.{ℕ, ◌+◌, ◌-◌, ◌*◌, ◌<◌, ◌%◌, ◌^◌, Bool, ◌==◌, ◌||◌, if◌then◌else◌}
 use Rattle.std.specs.Int.{bit_at}
 use Rattle.object_header.specs.declared.flags.Flag.{Flag}
 use Rattle.object_header.specs.declared.flags.Flag.TheVariants.{Track, Visited, HasShadow, Pinned, HasCards, CardsSet, Free, Shadow, Order1, Order2}
@@ -32,6 +32,10 @@ bit_of Order2 = 25
 -- whether a flag is set in a word
 unfoldable pub has_flag : ℕ → Flag → Bool
 has_flag word flag = bit_at word (bit_of flag) == 1
+
+-- whether a sweep keeps what begins with the word: an object that was visited, or a reserved home
+abbrev pub survives_sweep : ℕ → Bool
+survives_sweep word = has_flag word Visited || has_flag word Shadow
 
 -- the word with a flag set
 unfoldable pub with_flag : ℕ → Flag → ℕ

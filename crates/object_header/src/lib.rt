@@ -10,7 +10,7 @@ mod words;
 
 pub use flags::{Flag, FlagSet};
 pub use packing::{pack, unpack};
-pub use words::{clear, is_set, set, type_id};
+pub use words::{clear, is_set, set, survives_sweep, type_id};
 
 /// What the first word of an object says. Every type id with every set of the ten flags is a
 /// header.

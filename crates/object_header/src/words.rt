@@ -3,6 +3,7 @@
 
 ghost use Rattle.std.specs.Prelude.{◌≡◌};
 ghost use Rattle.object_header.specs.Words.{has_flag, with_flag, without_flag, type_of};
+ghost use Rattle.object_header.specs.Words.{survives_sweep};
 
 use crate::Flag;
 
@@ -11,6 +12,14 @@ pub fn is_set(word: u64, flag: Flag) -> bool
     ensures { result ≡ has_flag word flag }
 {
     word & flag.mask() != 0
+}
+
+/// Whether a sweep keeps the block that begins with the header word: its object was visited, or it
+/// is a reserved home.
+pub fn survives_sweep(word: u64) -> bool
+    ensures { result ≡ survives_sweep word }
+{
+    is_set(word, Flag::Visited) || is_set(word, Flag::Shadow)
 }
 
 /// The header word with the flag set.

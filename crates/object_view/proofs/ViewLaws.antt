@@ -92,12 +92,16 @@ pub lies-read : {m : Memory} {types : Table TypeInfo} {a word id : ℕ} {info : 
 lies-read {m = m} {a = a} r h =
     let P : Layout → Type 0 = λ layout. lies_in_one m.blocks a layout.words ≡ true in subst P (layout-third r) h.whole
 
+pub words-read : {m : Memory} {types : Table TypeInfo} {a word id : ℕ} {info : TypeInfo} (len : ℕ) → Reads m types a word id info
+    → layout_of info.shape a len ≡ layout_of info.shape a (word_at m.blocks (a + 2))
+    → (layout_of info.shape a len).words ≡ words_at types (word_at m.blocks) a
+words-read len r same = ap (λ layout. layout.words) (same ∙ sym (layout-third r))
+
 pub fits-read : {m : Memory} {types : Table TypeInfo} {a word id : ℕ} {info : TypeInfo} (len : ℕ) → Reads m types a word id info
     → IsInOrder m → HasObject m types a → layout_of info.shape a len ≡ layout_of info.shape a (word_at m.blocks (a + 2))
     → a + (layout_of info.shape a len).words < 2 ^ 64
 fits-read {m = m} {types = types} {a = a} {info = info} len r o h same =
-    let is : (layout_of info.shape a len).words ≡ words_at types (word_at m.blocks) a = ap (λ layout. layout.words) (same ∙ sym (layout-third r)) in
-    omega (arith, is, (has_header m types a o h).fits)
+    omega (arith, words-read len r same, (has_header m types a o h).fits)
 
 pub view-read : {m : Memory} {types : Table TypeInfo} {a word id : ℕ} {info : TypeInfo} (len birth : ℕ) (v : ObjView)
     → Reads m types a word id info → birth ≡ word_at m.blocks (a + 1)

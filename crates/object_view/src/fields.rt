@@ -5,7 +5,7 @@
 ghost use Rattle.std.specs.Prelude.{◌≡◌, ◌+◌, ◌^◌, ◌<◌, IsTrue, IsSome};
 ghost use Rattle.type_table.specs.Table.{value_at};
 ghost use Rattle.object_model.specs.Layout.{layout_of};
-ghost use Rattle.object_model.specs.ObjectWords.{info_or_weak};
+ghost use Rattle.object_model.specs.ObjectWords.{info_or_weak, words_at};
 ghost use Rattle.heap_space.specs.Places.{word_at, with_word, lies_in_one};
 ghost use Rattle.object_view.specs.Views.{HasObject, HasView, view_of, view_at};
 
@@ -40,6 +40,31 @@ pub fn view(space: &Space, types: &TypeTable, a: u64) -> ObjView
     let info = info_of(types, type_id);
     let len = length_of(space, info.shape, a);
     parts(info.shape, a, len, type_id, birth)
+}
+
+/// The words of the whole object at the place `a`, whose type is in the table: its header and its birth too.
+pub fn words_of(space: &Space, types: &TypeTable, a: u64) -> u64
+    requires { HasObject space.now types.now a }
+    ensures { result ≡ words_at types.now (word_at space.now.blocks) a }
+{
+    // The places of a space are below 2^63.
+    let _ordered = space.arena_words();
+    let type_id = object_header::type_id(space.read(a));
+    let info = info_of(types, type_id);
+    let len = length_of(space, info.shape, a);
+    shape_words(info.shape, a, len)
+}
+
+// The words of an object of the shape at the place a, of so many items if it is an array.
+fn shape_words(shape: Shape, a: u64, len: u64) -> u64
+    requires { a + (layout_of shape a len).words < 2 ^ 64 }
+    ensures { result ≡ (layout_of shape a len).words }
+{
+    match shape {
+        Shape::Fixed { ints, refs } => 2 + u64::from(ints) + u64::from(refs),
+        Shape::IntArray | Shape::RefArray => 3 + len,
+        Shape::Weak => 3,
+    }
 }
 
 // The descriptor of a type of the table.

@@ -7,4 +7,4 @@ mod fields;
 
 pub use birth::{Birth, init};
 pub use copying::move_refs;
-pub use fields::{ObjView, int_at, ref_at, set_int, set_ref, view};
+pub use fields::{ObjView, int_at, ref_at, set_int, set_ref, view, words_of};

@@ -12,16 +12,16 @@ use Rattle.heap_space.specs.Order.{IsInOrder}
 use Rattle.heap_space.specs.Extents.{Extent, Each, IsApart, IsInside, AreApart, KeepsOutside}
 use Rattle.heap_space.proofs.Blocks.{word_at-here, word_at-elsewhere}
 use Rattle.heap_space.proofs.ExtentLaws.{Each-map, Each-both, Each-join, Each-left, Each-right, Each-out, Each-into, AreApart-out}
-use Rattle.object_header.specs.Words.{has_flag, without_flag}
+use Rattle.object_header.specs.Words.{has_flag, without_flag, survives_sweep}
 use Rattle.object_header.specs.declared.flags.Flag.TheVariants.{Visited, Shadow}
 use Rattle.size_pages.specs.HasBlocks as pages
 use Rattle.size_pages.specs.Headers.{IsHeaded}
 use Rattle.size_pages.specs.PageWords.{word_in}
-use Rattle.size_pages.specs.Sweeping.{is_dead, birth_in}
+use Rattle.size_pages.specs.Sweeping.{birth_in}
 use Rattle.size_pages.proofs.FrameLaws.{IsBlock}
 use Rattle.large_objects.specs.Blocks.{larges_of, begin_elsewhere}
 use Rattle.large_objects.specs.Large as larges
-use Rattle.large_objects.specs.Sweep.{is_kept, unvisited, swept, left_over, freed_births}
+use Rattle.large_objects.specs.Sweep.{unvisited, swept, left_over, freed_births}
 use Rattle.large_objects.specs.declared.Large.{Large}
 use Rattle.large_objects.proofs.Rising.{Each-filter}
 use Rattle.large_objects.proofs.LargeLaws as large_laws
@@ -71,25 +71,17 @@ first-large l m large unit rest h =
 unit-block : (old : Old) (unit : ℕ) (x : Extent) → 1099511627776 ≤ unit → in_unit old unit x ≡ (x.0 == unit)
 unit-block old unit x low = let is : nat_lt unit 1099511627776 ≡ false = grind (arith, nat_tests) in rw is refl
 
-dead-kept : (m : Memory) (a : ℕ) → is_dead (word_in m a) ≡ not (is_kept m a)
-dead-kept m a = both (has_flag (word_at m.blocks a) Visited) (has_flag (word_at m.blocks a) Shadow) where
-  both : (v s : Bool) → (not v && not s) ≡ not (v || s)
-  both true true = refl
-  both true false = refl
-  both false true = refl
-  both false false = refl
-
 -- a block elsewhere stays
 other-lives : (old : Old) (m : Memory) (unit : ℕ) (x : Extent) → 1099511627776 ≤ unit → x.0 ≢ unit → dies old m unit x ≡ false
 other-lives old m unit x low other =
-    ap (λ (b : Bool). b && is_dead (word_in m x.0)) (unit-block old unit x low) ∙ (let no : (x.0 == unit) ≡ false = grind (arith, nat_tests) in rw no refl)
+    ap (λ (b : Bool). b && not (survives_sweep (word_in m x.0))) (unit-block old unit x low) ∙ (let no : (x.0 == unit) ≡ false = grind (arith, nat_tests) in rw no refl)
 
 -- the block itself goes where it is not kept
-self-dies : (old : Old) (m : Memory) (unit : ℕ) (x : Extent) → 1099511627776 ≤ unit → x.0 ≡ unit → dies old m unit x ≡ not (is_kept m unit)
+self-dies : (old : Old) (m : Memory) (unit : ℕ) (x : Extent) → 1099511627776 ≤ unit → x.0 ≡ unit → dies old m unit x ≡ not (survives_sweep (word_at m.blocks unit))
 self-dies old m unit x low same =
-    ap (λ (b : Bool). b && is_dead (word_in m x.0)) (unit-block old unit x low)
+    ap (λ (b : Bool). b && not (survives_sweep (word_in m x.0))) (unit-block old unit x low)
     ∙ (let yes : (x.0 == unit) ≡ true = grind (arith, nat_tests) in rw yes refl)
-    ∙ ap (λ (a : ℕ). is_dead (word_in m a)) same ∙ dead-kept m unit
+    ∙ ap (λ (a : ℕ). not (survives_sweep (word_in m a))) same
 
 others-apart : (unit n : ℕ) (x : Extent) → 2 ≤ n → 2 ≤ x.1 → IsApart (unit, n) x → x.0 ≢ unit
 others-apart unit n x two wide away same = elim away [ inl a ↦ omega (arith, same) | inr b ↦ omega (arith, same) ]
@@ -228,7 +220,7 @@ kept-words old m unit large f there other =
     subst (λ (xs : List Extent). Each W xs) (sym f.is) (Each-into W f.front f.back (unit, f.words) self others)
 
 pub swept-kept : (old : Old) (l : Large) (m after : Memory) (births : List ℕ) (live small large : List Extent) (unit : ℕ) (rest : List ℕ)
-    → is_kept m unit ≡ true → pages.HasBlocks old.pages m small [] → larges.HasBlocks old.large m large (unit ∷ rest)
+    → survives_sweep (word_at m.blocks unit) ≡ true → pages.HasBlocks old.pages m small [] → larges.HasBlocks old.large m large (unit ∷ rest)
     → larges.HasBlocks l after (left_over m unit large) rest → after ≡ swept m unit → births ≡ freed_births m unit
     → KeepsOutside 1099511627776 9223372036854775808 m after → IsPermutation (small ++ large) live → greatest_block old.pages ≡ old.small
     → Each (IsHeaded m) live → SweepsUnit old m (record { pages = old.pages; large = l; small = old.small }) after births live unit rest
@@ -253,7 +245,7 @@ swept-kept old l m after births live small large unit rest k in_pages in_larges 
 -- the block goes
 
 pub swept-freed : (old : Old) (l : Large) (m after : Memory) (births : List ℕ) (live small large : List Extent) (unit : ℕ) (rest : List ℕ)
-    → is_kept m unit ≡ false → IsInOrder m → pages.HasBlocks old.pages m small [] → larges.HasBlocks old.large m large (unit ∷ rest)
+    → survives_sweep (word_at m.blocks unit) ≡ false → IsInOrder m → pages.HasBlocks old.pages m small [] → larges.HasBlocks old.large m large (unit ∷ rest)
     → larges.HasBlocks l after (left_over m unit large) rest → after ≡ swept m unit → births ≡ freed_births m unit
     → KeepsOutside 1099511627776 9223372036854775808 m after → IsPermutation (small ++ large) live → greatest_block old.pages ≡ old.small
     → Each (IsHeaded m) live → SweepsUnit old m (record { pages = old.pages; large = l; small = old.small }) after births live unit rest
@@ -292,7 +284,7 @@ pub swept-block : (old : Old) (l : Large) (m after : Memory) (births : List ℕ)
     → KeepsOutside 1099511627776 9223372036854775808 m after → IsPermutation (small ++ large) live → greatest_block old.pages ≡ old.small
     → Each (IsHeaded m) live → SweepsUnit old m (record { pages = old.pages; large = l; small = old.small }) after births live unit rest
 swept-block old l m after births live small large unit rest o in_pages in_larges now is told outside perm greatest headed =
-    elim (cases_Bool (is_kept m unit)) [
+    elim (cases_Bool (survives_sweep (word_at m.blocks unit))) [
       | inl k ↦ swept-kept old l m after births live small large unit rest k in_pages in_larges now is told outside perm greatest headed
       | inr k ↦ swept-freed old l m after births live small large unit rest k o in_pages in_larges now is told outside perm greatest headed
     ]

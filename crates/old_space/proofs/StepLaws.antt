@@ -7,6 +7,8 @@ use Rattle.heap_space.specs.Memory.{Memory}
 use Rattle.heap_space.specs.Order.{IsInOrder}
 use Rattle.heap_space.specs.Extents.{Extent, Each, KeepsOutside}
 use Rattle.heap_space.proofs.ExtentLaws.{Each-left}
+use Rattle.heap_space.specs.Places.{word_at}
+use Rattle.object_header.specs.Words.{survives_sweep}
 use Rattle.size_pages.specs.HasBlocks as pages
 use Rattle.size_pages.specs.Headers as headers
 use Rattle.size_pages.specs.Headers.{IsHeaded}
@@ -15,7 +17,7 @@ use Rattle.size_pages.specs.Sweeping as page_sweep
 use Rattle.size_pages.specs.declared.Pages.{Pages}
 use Rattle.large_objects.specs.Large as larges
 use Rattle.std.proofs.lemmas.Bool.{cases_Bool}
-use Rattle.large_objects.specs.Sweep.{is_kept, swept, left_over, freed_births}
+use Rattle.large_objects.specs.Sweep.{swept, left_over, freed_births}
 use Rattle.large_objects.specs.declared.Large.{Large}
 use Rattle.large_objects.proofs.Same.{same-permutation}
 use Rattle.old_space.specs.HasBlocks.{HasBlocks}
@@ -165,7 +167,7 @@ block-next old m s none some = next-in old.large m s.has.blocks.large s.has.bloc
 
 -- no arena changes its words
 swept-arenas : (m : Memory) (a : ℕ) → (swept m a).arena_words ≡ m.arena_words
-swept-arenas m a = elim (cases_Bool (is_kept m a)) [ inl e ↦ rw e refl | inr e ↦ rw e refl ]
+swept-arenas m a = elim (cases_Bool (survives_sweep (word_at m.blocks a))) [ inl e ↦ rw e refl | inr e ↦ rw e refl ]
 
 pub block-step : {T : Type 0} (old : Old) (l : Large) (m after : Memory) (before now : List ℕ) (r : Result T AllocError) → StandsWithHeaders old m
     → waiting_page_count old.pages ≡ 0 → 0 < units_left old → IsInOrder m

@@ -9,7 +9,7 @@ use Rattle.std.proofs.lemmas.List.Sorted.{IsPermutation-map, IsPermutation-trans
 use Rattle.heap_space.specs.Memory.{Memory}
 use Rattle.heap_space.specs.Extents.{Extent, Each, IsInside, KeepsWords}
 use Rattle.heap_space.proofs.ExtentLaws.{Each-map, Each-both, Each-join, Each-left, Each-right}
-use Rattle.object_header.specs.Words.{has_flag, without_flag, IsHeader}
+use Rattle.object_header.specs.Words.{has_flag, without_flag, IsHeader, survives_sweep}
 use Rattle.object_header.specs.declared.flags.Flag.TheVariants.{Free, Visited}
 use Rattle.object_header.proofs.WordLaws as header_laws
 use Rattle.size_pages.specs.HasBlocks as pages
@@ -18,7 +18,7 @@ use Rattle.size_pages.specs.PageWords.{word_in, IsInArenas}
 use Rattle.size_pages.specs.PageLists.{EachPlace, IsPage}
 use Rattle.size_pages.specs.LiveBlocks.{in_page, page_at}
 use Rattle.size_pages.specs.Sweeping as page_sweep
-use Rattle.size_pages.specs.Sweeping.{is_dead, birth_in}
+use Rattle.size_pages.specs.Sweeping.{birth_in}
 use Rattle.size_pages.specs.declared.Pages.{Pages}
 use Rattle.size_pages.proofs.FitLaws.{pages_part}
 use Rattle.size_pages.proofs.FrameLaws.{IsBlock}
@@ -100,7 +100,7 @@ page-unit old unit x is = ap (λ (b : Bool). cond b (in_page (page_size old) uni
 
 page-dies : (old : Old) (m : Memory) (unit : ℕ) (x : Extent) → nat_lt unit 1099511627776 ≡ true
     → dies old m unit x ≡ page_sweep.dies (word_in m) (page_size old) unit x
-page-dies old m unit x is = ap (λ (b : Bool). b && is_dead (word_in m x.0)) (page-unit old unit x is)
+page-dies old m unit x is = ap (λ (b : Bool). b && not (survives_sweep (word_in m x.0))) (page-unit old unit x is)
 
 above-page : (size unit : ℕ) (x : Extent) → unit + size ≤ 1099511627776 → 1099511627776 ≤ x.0 → in_page size unit x ≡ false
 above-page size unit x end above = grind (arith, nat_tests)
@@ -108,7 +108,7 @@ above-page size unit x end above = grind (arith, nat_tests)
 large-lives : (old : Old) (m : Memory) (unit : ℕ) (x : Extent) → nat_lt unit 1099511627776 ≡ true → unit + page_size old ≤ 1099511627776
     → 1099511627776 ≤ x.0 → dies old m unit x ≡ false
 large-lives old m unit x is end above =
-    page-dies old m unit x is ∙ ap (λ (b : Bool). b && is_dead (word_in m x.0)) (above-page (page_size old) unit x end above)
+    page-dies old m unit x is ∙ ap (λ (b : Bool). b && not (survives_sweep (word_in m x.0))) (above-page (page_size old) unit x end above)
 
 large-word : (old : Old) (m : Memory) (unit : ℕ) (x : Extent) (a : ℕ) → nat_lt unit 1099511627776 ≡ true → unit + page_size old ≤ 1099511627776
     → 1099511627776 ≤ x.0 → swept_word old m unit x a ≡ word_in m a

@@ -3,11 +3,11 @@ use Rattle.std.specs.Prelude.{◌≡◌, ℕ, ◌+◌, Bool, ◌&&◌, not, ◌=
 use Rattle.std.specs.List.Sorted.{IsPermutation}
 use Rattle.heap_space.specs.Memory.{Memory}
 use Rattle.heap_space.specs.Extents.{Extent, Each, IsInside, KeepsOutside}
-use Rattle.object_header.specs.Words.{without_flag}
+use Rattle.object_header.specs.Words.{survives_sweep, without_flag}
 use Rattle.object_header.specs.declared.flags.Flag.TheVariants.{Visited}
 use Rattle.size_pages.specs.PageWords.{word_in}
 use Rattle.size_pages.specs.LiveBlocks.{in_page}
-use Rattle.size_pages.specs.Sweeping.{is_dead, birth_in}
+use Rattle.size_pages.specs.Sweeping.{birth_in}
 use Rattle.old_space.specs.HasBlocks.{KeepsSizes, page_size}
 use Rattle.old_space.specs.Headers.{HasHeaders}
 use Rattle.old_space.specs.declared.Old.{Old}
@@ -19,7 +19,7 @@ in_unit old unit x = if nat_lt unit 1099511627776 then in_page (page_size old) u
 
 -- whether the block goes where the unit is swept: its object was not visited, and it is no reserved home
 abbrev pub dies : Old → Memory → ℕ → Extent → Bool
-dies old m unit x = in_unit old unit x && is_dead (word_in m x.0)
+dies old m unit x = in_unit old unit x && not (survives_sweep (word_in m x.0))
 
 -- the live blocks that go, and those that stay
 abbrev pub dead_blocks : Old → Memory → ℕ → List Extent → List Extent

@@ -9,7 +9,7 @@ use Rattle.nursery_gaps.specs.Nursery.{Layout as NurseryLayout, FitsLowest, Hand
 use Rattle.object_header.specs.Words.{with_flag}
 use Rattle.object_header.specs.declared.flags.Flag.TheVariants.{Track, HasCards}
 use Rattle.object_view.specs.Births.{born_words}
-use Rattle.old_space.specs.HasBlocks.{HasBlocks, Stands, greatest_small}
+use Rattle.old_space.specs.HasBlocks.{HasBlocks, Stands, greatest_small, page_size}
 use Rattle.old_space.specs.Calls.{IsElsewhere}
 use Rattle.old_space.specs.declared.Old.{Old}
 use Rattle.parts_model.specs.Parts.{HeapParts}
@@ -59,7 +59,7 @@ pub record KeepsLive (old new : HeapParts) : Type 0 where
   pub outside : KeepsOutside 4294967296 9223372036854775808 old.memory new.memory
   pub arenas : new.memory.arena_words ≡ old.memory.arena_words
   pub small : greatest_small new.old_blocks ≡ greatest_small old.old_blocks
-  pub page : new.old_blocks.pages.page ≡ old.old_blocks.pages.page
+  pub page : page_size new.old_blocks ≡ page_size old.old_blocks
 
 -- a block of so many words at the place is live from now on, in a unit that does not wait, and nothing else changed
 pub record TakesBlock (old new : HeapParts) (n place : ℕ) : Type 0 where

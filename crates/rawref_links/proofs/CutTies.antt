@@ -9,13 +9,14 @@ use Rattle.type_table.specs.Table.{Table, KeysRise, value_at}
 use Rattle.type_table.proofs.TableLaws.{KeysRise-tail, KeysRise-cons, first_key_below}
 use Rattle.text_model.specs.declared.line.LinkEnd.{LinkEnd}
 use Rattle.text_model.specs.declared.line.Fate.TheVariants as fate
-use Rattle.object_model.specs.Sets.{is_in}
+use Rattle.object_model.proofs.SameMembers.{part_differs}
+use Rattle.object_model.specs.Sets.{is_in, AreDifferent}
 use Rattle.store_model.specs.Store.{Struct, Linked, Unlinked, Pending}
 use Rattle.rawref_links.specs.Conditions.{is_pending}
 use Rattle.store_model.specs.Links.{fate_of, left_by, link_end, link_ends, struct_after, entry_after, is_queued_by, newly_dead}
 use Rattle.rawref_links.specs.Objects.{LinksOf, no_links, links_at, is_at_one}
 use Rattle.rawref_links.specs.Cuts.{end_of, left_of, ends_of, CutsAt, AreListed}
-use Rattle.rawref_links.specs.Sound.{is_p_linked_to, AreDifferent}
+use Rattle.rawref_links.specs.Sound.{is_p_linked_to}
 use Rattle.rawref_links.specs.Ties.{is_linked_to, is_number, AreTied}
 use Rattle.rawref_links.proofs.Tables.{same_table, value_at-behind_first}
 use Rattle.rawref_links.proofs.Picked.{Rises-increasing, AreDifferent-rising, found_by, picked, filter_map-same}
@@ -233,15 +234,6 @@ is_in-filter test number [] = refl
 is_in-filter test number (x ∷ xs) =
     one_passed test number x xs (x == number) (test x) refl refl (is_in-filter test number xs)
 
-AreDifferent-filter : (test : ℕ → Bool) (numbers : List ℕ) → AreDifferent numbers → AreDifferent (filter test numbers)
-AreDifferent-filter test [] different = tt
-AreDifferent-filter test (number ∷ numbers) different =
-    let rest = AreDifferent-filter test numbers different.1 in
-    elim (test number) as (λ t. AreDifferent (cond t (number ∷ filter test numbers) (filter test numbers))) [
-      | true ↦ (is_in-filter test number numbers ∙ ap (λ t. t && test number) different.0, rest)
-      | false ↦ rest
-    ]
-
 AreDifferent-append : (xs ys : List ℕ) → AreDifferent xs → AreDifferent ys → ((n : ℕ) → is_in n xs ≡ true → is_in n ys ≡ false) → AreDifferent (xs ++ ys)
 AreDifferent-append [] ys first second apart = second
 AreDifferent-append (x ∷ xs) ys first second apart = (
@@ -310,7 +302,7 @@ module _ (structs seen : Table Struct) (objects : Table LinksOf) (dead numbers p
         once = subst AreDifferent (sym queued)
             (AreDifferent-append dead (newly_dead (ends_of structs numbers)) tied.queued.once
             (subst AreDifferent (sym (newly_dead-ends structs numbers))
-            (AreDifferent-filter (λ n. waits (value_at structs n)) numbers (AreDifferent-rising numbers (Rises-increasing numbers rising))))
+            (part_differs (λ n. waits (value_at structs n)) numbers (AreDifferent-rising numbers (Rises-increasing numbers rising))))
             (λ n there. is_newly_dead n
             ∙ ap (λ t. is_gone (λ object. is_in object places) (value_at structs n) && t) (waits_apart (value_at structs n) (sym (tied.queued.waiting n) ∙ there))
             ∙ and_false (is_gone (λ object. is_in object places) (value_at structs n))));

@@ -8,8 +8,7 @@ use Rattle.std.proofs.lemmas.Bool.Decides.{nat_tests}
 use Rattle.std.proofs.lemmas.Map.Keys.{below_from_sorted, sorted_tail, sorted_from_strictly_increasing}
 use Rattle.type_table.specs.Table.{Table, KeysRise, value_at}
 use Rattle.type_table.proofs.TableLaws.{KeysRise-tail}
-use Rattle.object_model.specs.Sets.{is_in}
-use Rattle.rawref_links.specs.Sound.{AreDifferent}
+use Rattle.object_model.specs.Sets.{is_in, AreDifferent}
 use Rattle.rawref_links.proofs.Tables.{value_at-first, value_at-behind_first, value_at-lower}
 use Rattle.rawref_links.proofs.Numbers.{Contains-from_is_in}
 

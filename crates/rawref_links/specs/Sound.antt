@@ -1,7 +1,7 @@
 -- What holds of the structures and the dead queue at any time.
-use Rattle.std.specs.Prelude.{◌≡◌, ℕ, Bool, false, IsTrue, List, [], ◌∷◌, Option, Some, None}
+use Rattle.std.specs.Prelude.{◌≡◌, ℕ, Bool, false, IsTrue, List, Option, Some, None}
 use Rattle.type_table.specs.Table.{Table, KeysRise, value_at}
-use Rattle.object_model.specs.Sets.{is_in}
+use Rattle.object_model.specs.Sets.{is_in, AreDifferent}
 use Rattle.store_model.specs.Store.{Struct}
 use Rattle.store_model.specs.Structs.{Structs}
 use Rattle.store_model.specs.StructChecks.{is_p_link_of}
@@ -11,11 +11,6 @@ use Rattle.rawref_links.specs.Conditions.{is_pending}
 abbrev pub is_p_linked_to : ℕ → Option Struct → Bool
 is_p_linked_to place None = false
 is_p_linked_to place (Some structure) = is_p_link_of (Some place) structure
-
--- no number stands twice
-abbrev pub AreDifferent : List ℕ → Type 0
-AreDifferent [] = Unit {0}
-AreDifferent (number ∷ numbers) = (is_in number numbers ≡ false) × AreDifferent numbers
 
 -- the structures stand by rising number, and the dead queue has just the pending ones, each once
 pub record AreQueued (structs : Table Struct) (dead : List ℕ) : Type 0 where

@@ -3,9 +3,9 @@ use Rattle.std.proofs.Common.{◌≡◌, ℕ, Bool, true, false, cond, IsTrue, L
 use Rattle.std.specs.Prelude.{◌==◌, ◌||◌, not, if◌then◌else◌, filter}
 use Rattle.std.proofs.lemmas.Bool.{cases_Bool}
 use Rattle.object_model.proofs.Members.{is_in-head, is_in-tail, is_in-cases}
-use Rattle.object_model.specs.Sets.{is_in}
+use Rattle.object_model.specs.Sets.{is_in, AreDifferent}
 use Rattle.remember_cards.specs.Remembered.{Held, held_whole, has_any}
-use Rattle.remember_cards.specs.Entries.{Marks, MarksAt, held_at, entries_of, DoDiffer, AreListed, AreKept}
+use Rattle.remember_cards.specs.Entries.{Marks, MarksAt, held_at, entries_of, AreListed, AreKept}
 use Rattle.remember_cards.proofs.EntryLaws.{not-first, not-second}
 use Rattle.remember_cards.proofs.OrderLaws.{place_at}
 
@@ -33,7 +33,7 @@ filter-in keep q (x ∷ xs) t k = elim (is_in-cases q x xs t) [
   ]
 ]
 
-pub differ-filter : (keep : ℕ → Bool) (xs : List ℕ) → DoDiffer xs → DoDiffer (filter keep xs)
+pub differ-filter : (keep : ℕ → Bool) (xs : List ℕ) → AreDifferent xs → AreDifferent (filter keep xs)
 differ-filter keep [] d = tt
 differ-filter keep (x ∷ xs) d = elim (cases_Bool (keep x)) [
   | inl k ↦ rw k (filter-out keep x xs d.0, differ-filter keep xs d.1)
@@ -75,7 +75,7 @@ module _ (f g : MarksAt) (dead : List ℕ) (is : (q : ℕ) → g q ≡ (if is_in
 pub kept_dropped : (keep : ℕ → Bool) (keys order keys' order' : List ℕ) → AreKept keys order → keys' ≡ filter keep keys → order' ≡ filter keep order → AreKept keys' order'
 kept_dropped keep keys order keys' order' k one two = record {
   same = one ∙ (ap (filter keep) k.same ∙ sym two);
-  differ = subst DoDiffer (sym two) (differ-filter keep order k.differ);
+  differ = subst AreDifferent (sym two) (differ-filter keep order k.differ);
 }
 
 -- what is kept is remembered whole, and so less by these places too

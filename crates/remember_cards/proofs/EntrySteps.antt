@@ -5,10 +5,10 @@ use Rattle.std.specs.Option.{option_map, option_and_then}
 use Rattle.std.proofs.lemmas.Bool.{eq-eqb, cases_Bool}
 use Rattle.std.proofs.lemmas.Bool.Decides.{eqb_tells}
 use Rattle.object_model.proofs.Members.{is_in-head, is_in-cases, is_in-last}
-use Rattle.object_model.specs.Sets.{is_in}
+use Rattle.object_model.specs.Sets.{is_in, AreDifferent}
 use Rattle.remember_cards.specs.Remembered.{Held, held_whole, has_any, is_whole_among, has_cards_among, with_cards, hold_whole, hold_cards}
 use Rattle.remember_cards.specs.Drained.{span_of, span_of_taken, left_of}
-use Rattle.remember_cards.specs.Entries.{Marks, MarksAt, with_marks, held_at, entries_of, DoDiffer, AreListed, marked_whole, marks_or_none, marked_cards, taken_card, taken_of, is_more_left, left_marks}
+use Rattle.remember_cards.specs.Entries.{Marks, MarksAt, with_marks, held_at, entries_of, AreListed, marked_whole, marks_or_none, marked_cards, taken_card, taken_of, is_more_left, left_marks}
 use Rattle.remember_cards.proofs.EntryLaws.{any_absent}
 use Rattle.remember_cards.proofs.RememberLaws.{cards_any}
 use Rattle.remember_cards.proofs.OrderLaws.{place_at, places_order, marks-here, marks-again, elsewhere, changed_one, added_one, not_there, none_of, listed_with, listed_push, listed_rest}
@@ -110,7 +110,7 @@ cards_among f p order l = elim (cases_Bool (is_in p order)) [
     tail : (h : Held) (hs : List Held) → (h.place == p) ≡ false → has_cards_among (h ∷ hs) p ≡ has_cards_among hs p
     tail h hs e = rw e refl
 
-    there : (order : List ℕ) → DoDiffer order → IsTrue (is_in p order) → has_cards_among (entries_of f order) p ≡ has_any (held_at p (f p)).cards
+    there : (order : List ℕ) → AreDifferent order → IsTrue (is_in p order) → has_cards_among (entries_of f order) p ≡ has_any (held_at p (f p)).cards
     there [] d t = absurd (let no : ⊥ = cc in no)
     there (x ∷ xs) d t = elim (eqb_tells x p) [
       | inl e ↦

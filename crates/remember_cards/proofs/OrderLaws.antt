@@ -5,9 +5,9 @@ use Rattle.std.proofs.lemmas.Bool.{eq-eqb, ne_eqb, cases_Bool}
 use Rattle.std.proofs.lemmas.Bool.Decides.{eqb_tells}
 use Rattle.std.proofs.lemmas.List.{map-append}
 use Rattle.object_model.proofs.Members.{is_in-cases, is_in-before, is_in-append}
-use Rattle.object_model.specs.Sets.{is_in}
+use Rattle.object_model.specs.Sets.{is_in, AreDifferent}
 use Rattle.remember_cards.specs.Remembered.{Held, held_whole, has_any, is_whole_among, with_entry}
-use Rattle.remember_cards.specs.Entries.{Marks, MarksAt, with_marks, held_at, entries_of, DoDiffer, AreOrderly, AreListed}
+use Rattle.remember_cards.specs.Entries.{Marks, MarksAt, with_marks, held_at, entries_of, AreOrderly, AreListed}
 use Rattle.remember_cards.proofs.EntryLaws.{places_of, not-first, not-second, entry_last}
 
 pub place_at : (p : ℕ) (m : Option Marks) → (held_at p m).place ≡ p
@@ -45,7 +45,7 @@ pub entry-tail : (change : Held → Held) (new h : Held) (rest : List Held) (p :
 entry-tail change new h rest p ne = rw (ne_eqb h.place p ne) refl
 
 -- marks at a place in the order change its entry
-pub changed_one : (change : Held → Held) (new : Held) (f : MarksAt) (p : ℕ) (v : Option Marks) (order : List ℕ) → DoDiffer order → IsTrue (is_in p order)
+pub changed_one : (change : Held → Held) (new : Held) (f : MarksAt) (p : ℕ) (v : Option Marks) (order : List ℕ) → AreDifferent order → IsTrue (is_in p order)
     → change (held_at p (f p)) ≡ held_at p v → entries_of (with_marks f p v) order ≡ with_entry change new (entries_of f order) p
 changed_one change new f p v [] d t same = absurd (let no : ⊥ = cc in no)
 changed_one change new f p v (x ∷ xs) d t same = elim (eqb_tells x p) [
@@ -128,7 +128,7 @@ out-append x p xs out ne = elim (cases_Bool (is_in x (xs ++ p ∷ []))) [
 ]
 
 -- a new place behind those that differ
-pub differ_push : (order : List ℕ) (p : ℕ) → DoDiffer order → is_in p order ≡ false → DoDiffer (order ++ p ∷ [])
+pub differ_push : (order : List ℕ) (p : ℕ) → AreDifferent order → is_in p order ≡ false → AreDifferent (order ++ p ∷ [])
 differ_push [] p d out = (refl, tt)
 differ_push (x ∷ xs) p d out = (
   out-append x p xs d.0 (λ e. let head : (x == p) ≡ true = eq-eqb x p e in let first : (x == p) ≡ false = not-first (x == p) (is_in p xs) out in let no : ⊥ = cc in no),
@@ -163,7 +163,7 @@ listed_rest f p order l = record {
 }
 
 -- what the two structures are kept to, as entries
-pub orderly : (f : MarksAt) (order : List ℕ) → DoDiffer order → ((q : ℕ) → IsTrue (is_some (f q)) → has_any (held_at q (f q)).cards ≡ true) → AreOrderly (entries_of f order)
+pub orderly : (f : MarksAt) (order : List ℕ) → AreDifferent order → ((q : ℕ) → IsTrue (is_some (f q)) → has_any (held_at q (f q)).cards ≡ true) → AreOrderly (entries_of f order)
 orderly f [] d some = tt
 orderly f (x ∷ xs) d some =
     (ap₂ (λ (y : ℕ) (ys : List ℕ). is_in y ys) (place_at x (f x)) (places_order f xs) ∙ d.0, by (f x) (some x), orderly f xs d.1 some)

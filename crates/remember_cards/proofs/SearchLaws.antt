@@ -11,8 +11,8 @@ use Rattle.std.proofs.lemmas.List.{get_or_default}
 use Rattle.std.proofs.lemmas.List.Folds.{list_any_at, list_any_none}
 use Rattle.std.proofs.lemmas.List.Sorted.{searched, IsNonDecreasingBy-from_sort}
 use Rattle.indexmap.specs.IndexSet.{insert_key}
-use Rattle.object_model.specs.Sets.{is_in}
-use Rattle.remember_cards.specs.Entries.{AreKept, DoDiffer}
+use Rattle.object_model.specs.Sets.{is_in, AreDifferent}
+use Rattle.remember_cards.specs.Entries.{AreKept}
 use Rattle.remember_cards.proofs.OrderLaws.{differ_push}
 
 pub found_among : (dead : List ℕ) (x : ℕ) (r : Result ℕ ℕ) → IsSorted nat_cmp dead → IsBinarySearchResult (λ y. nat_cmp y x) dead r → is_ok r ≡ is_in x dead
@@ -44,7 +44,7 @@ pub kept_more : (keys order keys' order' : List ℕ) (p : ℕ) → AreKept keys 
     → order' ≡ order ++ p ∷ [] → AreKept keys' order'
 kept_more keys order keys' order' p k out inserted pushed = record {
   same = inserted ∙ (rw out (ap (λ (xs : List ℕ). xs ++ p ∷ []) k.same ∙ sym pushed));
-  differ = subst DoDiffer (sym pushed) (differ_push order p k.differ (ap (is_in p) (sym k.same) ∙ (in_keys p keys ∙ out)));
+  differ = subst AreDifferent (sym pushed) (differ_push order p k.differ (ap (is_in p) (sym k.same) ∙ (in_keys p keys ∙ out)));
 }
 
 -- what `insert` tells of the set before

@@ -1,7 +1,7 @@
 -- What is remembered as two structures: the places in order, and marks of the arrays of which cards are remembered.
 use Rattle.std.specs.Prelude.{◌≡◌, ℕ, ◌==◌, ◌||◌, Bool, IsTrue, true, false, nat_eq, if◌then◌else◌, List, [], ◌∷◌, Option, Some, None, is_some, map, not}
 use Rattle.std.specs.Map.{lookup}
-use Rattle.object_model.specs.Sets.{is_in}
+use Rattle.object_model.specs.Sets.{is_in, AreDifferent}
 use Rattle.remember_cards.specs.Remembered.{Held, held_whole, has_any, with_cards}
 
 -- what is remembered of an array: all of it, or the items of these cards
@@ -34,11 +34,6 @@ held_at place (Some marks) = record { place = place; is_whole = marks.is_whole; 
 abbrev pub entries_of : MarksAt → List ℕ → List Held
 entries_of marks order = map (λ place. held_at place (marks place)) order
 
--- none of them twice
-abbrev pub DoDiffer : List ℕ → Type 0
-DoDiffer [] = Unit {0}
-DoDiffer (x ∷ xs) = (is_in x xs ≡ false) × DoDiffer xs
-
 -- no object has two entries, and each is remembered whole or has cards
 abbrev pub AreOrderly : List Held → Type 0
 AreOrderly [] = Unit {0}
@@ -47,11 +42,11 @@ AreOrderly (held ∷ rest) = (is_in held.place (map (λ other. other.place) rest
 -- the set of the kept places has those in the order, none of them twice
 pub record AreKept (places order : List ℕ) : Type 0 where
   pub same : places ≡ order
-  pub differ : DoDiffer order
+  pub differ : AreDifferent order
 
 -- no place stands twice in the order, and what has marks stands there and has cards
 pub record AreListed (marks : MarksAt) (order : List ℕ) : Type 0 where
-  pub differ : DoDiffer order
+  pub differ : AreDifferent order
   pub listed : (place : ℕ) → IsTrue (is_some (marks place)) → IsTrue (is_in place order)
   pub some_cards : (place : ℕ) → IsTrue (is_some (marks place)) → has_any (held_at place (marks place)).cards ≡ true
 

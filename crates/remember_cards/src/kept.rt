@@ -2,8 +2,7 @@
 
 ghost use Rattle.std.specs.Prelude.{◌≡◌, ◌∷◌, ◌++◌, [], not, filter, if◌then◌else◌, OnOk, OnErr, IsSorted};
 ghost use Rattle.std.specs.Ordering.{nat_cmp};
-ghost use Rattle.object_model.specs.Sets.{is_in};
-ghost use Rattle.remember_cards.specs.Entries.{DoDiffer};
+ghost use Rattle.object_model.specs.Sets.{is_in, AreDifferent};
 
 use indexmap::IndexSet;
 use std::alloc::{AllocError, Global};
@@ -63,7 +62,7 @@ impl Kept {
     pub(crate) fn hand_over(&mut self, order: &mut VecDeque<u64>)
         requires { order.old.items ≡ [] }
         ensures order { order.new.items ≡ self.old }
-        ensures differ { DoDiffer order.new.items }
+        ensures differ { AreDifferent order.new.items }
         ensures emptied { self.new ≡ [] }
     {
         mem::swap(&mut self.order, order);

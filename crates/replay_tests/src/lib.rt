@@ -8,3 +8,5 @@ mod collections;
 mod faults;
 #[cfg(test)]
 mod rows;
+#[cfg(test)]
+mod words;

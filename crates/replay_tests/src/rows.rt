@@ -1,4 +1,6 @@
 //! What no clause says: that runs come to their ends with ample memory, and the texts that they write.
+ghost use Rattle.std.specs.Prelude.{◌≡◌};
+ghost use Rattle.heap_core.specs.Heap.{closed_heap};
 
 use heap_core::Heap;
 use heap_io::{MemFiles, MemSink, NamedFile};
@@ -67,18 +69,6 @@ fn texts_of(alloc: Global, words: &[&str]) -> Result<Vec<String>, AllocError> {
     Ok(texts)
 }
 
-/// Runs the program over a heap of its own.
-fn status_of(
-    alloc: Global,
-    words: &[String],
-    files: &mut MemFiles,
-    out: &mut MemSink,
-    err: &mut MemSink,
-) -> Status {
-    let mut heap = Heap::closed();
-    run(alloc, words, files, out, err, &mut heap)
-}
-
 /// Runs the program for words, where these calls of the files and of the sink fail. The script is the one file, by the
 /// name `s`.
 fn answered(
@@ -96,13 +86,34 @@ fn answered(
     run_over(alloc, words, Vec::from_slice(alloc, script)?, machine)
 }
 
-/// Runs the program for words over such a machine. The script is the one file, by the name `s`.
+/// Runs the program for words over such a machine and a heap of its own. The script is the one file, by the name `s`.
 pub(crate) fn run_over(
     alloc: Global,
     words: &[&str],
     script: Vec<u8>,
     machine: Machine,
 ) -> Result<Outcome, AllocError> {
+    let mut heap = Heap::closed();
+    run_heap(alloc, words, script, machine, &mut heap)
+}
+
+/// Replays a script over a heap, where nothing fails. The heap stays as the run leaves it.
+pub(crate) fn run_on(alloc: Global, script: Vec<u8>, heap: &mut Heap) -> Result<Outcome, AllocError>
+    requires { heap.old ≡ closed_heap }
+{
+    run_heap(alloc, &["replay", "s"], script, SURE, heap)
+}
+
+/// Runs the program for words over such a machine and a heap.
+fn run_heap(
+    alloc: Global,
+    words: &[&str],
+    script: Vec<u8>,
+    machine: Machine,
+    heap: &mut Heap,
+) -> Result<Outcome, AllocError>
+    requires { heap.old ≡ closed_heap }
+{
     let texts = texts_of(alloc, words)?;
     let mut files = files_of(alloc, script, machine)?;
     let mut out = MemSink::new(
@@ -111,7 +122,7 @@ pub(crate) fn run_over(
         Vec::from_slice(alloc, machine.write_fails)?,
     )?;
     let mut err = MemSink::new(alloc, 1000, Vec::from_slice(alloc, machine.tell_fails)?)?;
-    let status = status_of(alloc, &texts, &mut files, &mut out, &mut err);
+    let status = run(alloc, &texts, &mut files, &mut out, &mut err, heap);
     Ok(Outcome {
         status,
         out: Vec::from_slice(alloc, out.written())?,

@@ -9,7 +9,7 @@ use Rattle.text_model.specs.declared.item.Item.TheVariants.{Blank, Setting, Type
 use Rattle.text_model.specs.declared.item.Reason.TheVariants.{Late, SetTwice, SetRange}
 use Rattle.text_model.specs.declared.line.Line.{Line}
 use Rattle.object_model.specs.declared.settings.Settings.{Settings}
-use Rattle.object_model.specs.Setup.{Setup}
+use Rattle.object_model.specs.Setup.{Setup, type_at}
 use Rattle.object_model.specs.SettingRanges.{is_outside, ranges}
 use Rattle.object_model.specs.Sets.{is_in}
 use Rattle.store_model.specs.Store.{Store, empty_store}
@@ -22,14 +22,14 @@ use Rattle.store_model.specs.Transcript.{ItemDoes}
 use Rattle.heap_parts.specs.Parts.{HeapParts, word_in, place_in}
 use Rattle.heap_parts.specs.Told.{told}
 use Rattle.heap_core.specs.Heap.{HeapSeen, heap_of, closed_heap, StandsFor}
-use Rattle.heap_core.specs.Commands.{OfParts, AreReady, CanDo, IsFresh, Performs, Keeps, setup_in, told_by, nothing_told}
+use Rattle.heap_core.specs.Commands.{OfParts, AreReady, CanDo, IsFresh, Performs, Keeps, setup_in, told_by, nothing_told, type_found}
 use Rattle.heap_core.specs.Found.{found_in}
 use Rattle.heap_core.proofs.LookLaws.{look_told}
 use Rattle.heap_core.proofs.FoundCalls.{found-none}
 use Rattle.session_core.specs.declared.session.RunFault.{RunFault}
 use Rattle.session_core.specs.declared.session.RunFault.TheVariants.{OutOfMemory}
 use Rattle.session_core.specs.Blocks.{NoBlock, LeavesStore, LeavesOff, makes_blocks}
-use Rattle.session_core.specs.Finding.{of_fields, found_for}
+use Rattle.session_core.specs.Finding.{of_fields, of_sources, found_for, source_for, of_births, type_for}
 use Rattle.session_core.specs.Seen.{SessionSeen}
 use Rattle.session_core.specs.Standing.{IsStarted, HasHeap, HasStore, StandsAt, IsPlaced, DoesItem, KeepsFront, Answers, Sets, Adds, Begins, types_in, table_of, seen_if, setup_of, refusal_of}
 use Rattle.session_core.proofs.Passing.{passed}
@@ -197,6 +197,18 @@ setup_same session mid heap started b =
     ap (λ (h : HeapSeen). table_of h.parts) (sym b.has_heap.is) ∙ b.table in
     let same : b.has_heap.parts.setup ≡ setup_of session heap = λ i. record { settings = b.has_heap.settings_are i; types = types i } in
     same
+
+pub source_begun : (session mid : SessionSeen) (heap started : HeapSeen) (command : Command) → Begins session mid heap started
+    → source_for started command ≡ source_for heap command
+source_begun session mid heap started command b = λ i. of_sources (λ root. b.founds root i) command
+
+-- the type that was found for a birth is that of the heap that was started
+pub type_begun : (session mid : SessionSeen) (heap started : HeapSeen) (command : Command) → Begins session mid heap started
+    → of_births (type_found started.parts) command ≡ type_for (setup_of session heap) command
+type_begun session mid heap started command b =
+    let found : (id : ℕ) → type_found started.parts id ≡ type_at (setup_of session heap) id =
+    λ id. ap (λ (h : HeapSeen). type_found h.parts id) b.has_heap.is ∙ ap (λ (setup : Setup). type_at setup id) (setup_same session mid heap started b) in
+    λ i. of_births (λ id. found id i) command
 
 -- a command that is not refused passes its checks
 not_refused : (session : SessionSeen) (heap : HeapSeen) (command : Command) → refusal_of session heap (CommandItem command) ≡ None

@@ -1,11 +1,11 @@
 //! Checks that refuse a command, each over just what it looks at.
-ghost use Rattle.std.specs.Prelude.{◌≡◌, [], ◌∷◌, nat_le};
-ghost use Rattle.object_model.specs.Shapes.{holds_refs};
+ghost use Rattle.std.specs.Prelude.{◌≡◌, [], ◌∷◌, ◌++◌, nat_le};
+ghost use Rattle.object_model.specs.Shapes.{holds_refs, is_fixed_shape, is_array_shape};
 ghost use Rattle.text_model.specs.declared.item.Reason.TheVariants as reasons;
-ghost use Rattle.store_model.specs.Checks.{first_reason, slots_checks, found_checks, int_checks, ref_checks, copy_checks};
+ghost use Rattle.store_model.specs.Checks.{first_reason, slots_checks, born_checks, int_checks, ref_checks, copy_checks};
 ghost use Rattle.store_model.specs.StructChecks.{weak_checks, queue_checks, link_checks, struct_checks, inc_checks, dec_checks};
 
-use store_model::{Kind, Reason, Shape, StructState};
+use store_model::{Kind, Reason, Shape, StructState, TypeInfo};
 
 /// Of one slot that a command names, where there are so many.
 pub(crate) fn slot_refusal(roots: u64, root: u32) -> Option<Reason>
@@ -30,13 +30,35 @@ pub(crate) fn slots_refusal(roots: u64, a: u32, b: u32) -> Option<Reason>
     None
 }
 
-/// Of what a slot holds, which must be something.
-pub(crate) fn found_refusal(found: Option<Kind>) -> Option<Reason>
-    ensures { result ≡ first_reason (found_checks found) }
+/// Of the birth of an object of a fixed type for a slot, by the type that was found.
+pub(crate) fn fixed_refusal(roots: u64, root: u32, found: Option<TypeInfo>) -> Option<Reason>
+    ensures { result ≡ first_reason (slots_checks roots (root ∷ []) ++ born_checks found is_fixed_shape) }
 {
-    match found {
-        None => Some(Reason::NilRoot),
-        Some(_) => None,
+    if u64::from(root) >= roots {
+        return Some(Reason::NoRoot);
+    }
+    let Some(info) = found else {
+        return Some(Reason::NoType);
+    };
+    match info.shape {
+        Shape::Fixed { .. } => None,
+        _ => Some(Reason::WrongShape),
+    }
+}
+
+/// Of the birth of an array for a slot, by the type that was found.
+pub(crate) fn array_refusal(roots: u64, root: u32, found: Option<TypeInfo>) -> Option<Reason>
+    ensures { result ≡ first_reason (slots_checks roots (root ∷ []) ++ born_checks found is_array_shape) }
+{
+    if u64::from(root) >= roots {
+        return Some(Reason::NoRoot);
+    }
+    let Some(info) = found else {
+        return Some(Reason::NoType);
+    };
+    match info.shape {
+        Shape::IntArray | Shape::RefArray => None,
+        _ => Some(Reason::WrongShape),
     }
 }
 

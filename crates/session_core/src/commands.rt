@@ -1,42 +1,47 @@
 //! The commands that are not refused.
 ghost use Rattle.std.specs.Prelude.{◌≡◌, ◌<◌, false, IfErr, OnOk, OnErr, vec_len, vec_capacity};
 ghost use Rattle.heap_core.specs.declared.fault.HeapFault.TheVariants.{OutOfMemory};
-ghost use Rattle.heap_core.specs.Commands.{CanDo, Performs, Keeps};
+ghost use Rattle.heap_core.specs.Commands.{CanDo, Performs, Keeps, type_found};
 ghost use Rattle.session_core.specs.Commands.{may_collect, is_early, is_middle, is_no_struct};
-ghost use Rattle.session_core.specs.Finding.{found_for};
+ghost use Rattle.session_core.specs.Finding.{found_for, source_for, of_births};
 ghost use Rattle.session_core.specs.Standing.{KeepsFront};
 ghost use Rattle.session_core.specs.Ends.{EndsCommand};
 
+use crate::told::Looked;
 use heap_core::{Dec, Found, Heap, HeapFault};
 use store_model::{Command, Line};
 
-/// Does a command that is not refused, with what was found for it, and appends its lines. Those of
+/// Does a command that is not refused, with what was looked at for it, and appends its lines. Those of
 /// the collections before a birth that the limit refuses are appended too. Where memory runs out,
 /// the heap is spent or stands where whole blocks of collections led, and the old lines stand in
 /// front.
 pub(crate) fn do_command(
     heap: &mut Heap,
     command: &Command,
-    found: Option<Found>,
+    looked: Looked,
     out: &mut Vec<Line>,
 ) -> Result<(), HeapFault>
     requires can { CanDo heap.old command.now }
-    requires found { found ≡ found_for heap.old command.now }
+    requires found { looked.found ≡ found_for heap.old command.now }
+    requires source { looked.source ≡ source_for heap.old command.now }
+    requires info { looked.info ≡ of_births (type_found heap.old.parts) command.now }
     requires alive { heap.old.is_spent ≡ false }
     ensures { EndsCommand command.now heap.old heap.new out.old.items out.new.items result }
 {
     match *command {
-        Command::NewFixed { root, type_id } => heap.new_fixed(root, type_id, out),
-        Command::NewArray { root, type_id, len } => heap.new_array(root, type_id, len, out),
+        Command::NewFixed { root, type_id } => heap.new_fixed_of(root, type_id, looked.info, out),
+        Command::NewArray { root, type_id, len } => {
+            heap.new_array_of(root, type_id, looked.info, len, out)
+        }
         Command::NewWeak {
             root,
             type_id,
             target,
-        } => heap.new_weak(root, type_id, target, out),
+        } => heap.new_weak_of(root, type_id, looked.info, target, out),
         Command::Minor => heap.minor(out),
         Command::Step => heap.step(out),
         Command::Collect => heap.collect(out),
-        _ => do_at_once(heap, command, found, out),
+        _ => do_at_once(heap, command, looked, out),
     }
 }
 
@@ -44,11 +49,12 @@ pub(crate) fn do_command(
 fn do_at_once(
     heap: &mut Heap,
     command: &Command,
-    found: Option<Found>,
+    looked: Looked,
     out: &mut Vec<Line>,
 ) -> Result<(), HeapFault>
     requires can { CanDo heap.old command.now }
-    requires found { found ≡ found_for heap.old command.now }
+    requires found { looked.found ≡ found_for heap.old command.now }
+    requires source { looked.source ≡ source_for heap.old command.now }
     requires alive { heap.old.is_spent ≡ false }
     requires rest { may_collect command.now ≡ false }
     ensures performs { OnOk result (Performs heap.old heap.new command.now out.old.items out.new.items) }
@@ -57,18 +63,19 @@ fn do_at_once(
     ensures cause { IfErr result (λ fault. fault ≡ OutOfMemory) }
 {
     out.reserve(1)?;
-    on_objects(heap, command, found, out)
+    on_objects(heap, command, looked, out)
 }
 
 /// The same where there is room for the one line that such a command prints at most.
 fn on_objects(
     heap: &mut Heap,
     command: &Command,
-    found: Option<Found>,
+    looked: Looked,
     out: &mut Vec<Line>,
 ) -> Result<(), HeapFault>
     requires can { CanDo heap.old command.now }
-    requires found { found ≡ found_for heap.old command.now }
+    requires found { looked.found ≡ found_for heap.old command.now }
+    requires source { looked.source ≡ source_for heap.old command.now }
     requires alive { heap.old.is_spent ≡ false }
     requires room { vec_len out.old < vec_capacity out.old }
     requires rest { may_collect command.now ≡ false }
@@ -78,15 +85,15 @@ fn on_objects(
     ensures cause { IfErr result (λ fault. fault ≡ OutOfMemory) }
 {
     match *command {
-        Command::Put { root, item, value } => heap.put_found(root, found, item, value),
+        Command::Put { root, item, value } => heap.put_found(root, looked.found, item, value),
         Command::Get { root, item } => {
-            let value = heap.get_found(root, found, item)?;
+            let value = heap.get_found(root, looked.found, item)?;
             out.push_reserved(Line::Got { value });
             Ok(())
         }
-        Command::Link { root, item, from } => heap.link_found(root, found, item, from),
+        Command::Link { root, item, from } => heap.link_found(root, looked.found, item, from),
         Command::Load { to, root, item } => {
-            let birth = heap.load_found(to, root, found, item)?;
+            let birth = heap.load_found(to, root, looked.found, item)?;
             out.push_reserved(Line::Loaded { birth });
             Ok(())
         }
@@ -96,7 +103,15 @@ fn on_objects(
             from,
             from_item,
             count,
-        } => heap.copy_refs(root, item, from, from_item, count),
+        } => heap.copy_refs_found(
+            root,
+            looked.found,
+            item,
+            from,
+            looked.source,
+            from_item,
+            count,
+        ),
         Command::MoveRoot { to, from } => heap.move_root(to, from),
         Command::DropRoot { root } => heap.drop_root(root),
         Command::Same { a, b } => {
@@ -109,13 +124,19 @@ fn on_objects(
             out.push_reserved(Line::UsedIs { kept, husks });
             Ok(())
         }
-        _ => on_identity(heap, command, out),
+        _ => on_identity(heap, command, looked.found, out),
     }
 }
 
 /// The same of identities, of where objects are, and of pins.
-fn on_identity(heap: &mut Heap, command: &Command, out: &mut Vec<Line>) -> Result<(), HeapFault>
+fn on_identity(
+    heap: &mut Heap,
+    command: &Command,
+    found: Option<Found>,
+    out: &mut Vec<Line>,
+) -> Result<(), HeapFault>
     requires can { CanDo heap.old command.now }
+    requires found { found ≡ found_for heap.old command.now }
     requires alive { heap.old.is_spent ≡ false }
     requires room { vec_len out.old < vec_capacity out.old }
     requires rest { is_early command.now ≡ false }
@@ -146,13 +167,19 @@ fn on_identity(heap: &mut Heap, command: &Command, out: &mut Vec<Line>) -> Resul
             Ok(())
         }
         Command::Unpin { root } => heap.unpin(root),
-        _ => on_finalizers(heap, command, out),
+        _ => on_finalizers(heap, command, found, out),
     }
 }
 
 /// The same of targets of weak objects, of registrations and of queues.
-fn on_finalizers(heap: &mut Heap, command: &Command, out: &mut Vec<Line>) -> Result<(), HeapFault>
+fn on_finalizers(
+    heap: &mut Heap,
+    command: &Command,
+    found: Option<Found>,
+    out: &mut Vec<Line>,
+) -> Result<(), HeapFault>
     requires can { CanDo heap.old command.now }
+    requires found { found ≡ found_for heap.old command.now }
     requires alive { heap.old.is_spent ≡ false }
     requires room { vec_len out.old < vec_capacity out.old }
     requires rest { is_middle command.now ≡ false }
@@ -163,7 +190,7 @@ fn on_finalizers(heap: &mut Heap, command: &Command, out: &mut Vec<Line>) -> Res
 {
     match *command {
         Command::Deref { to, root } => {
-            let birth = heap.deref(to, root)?;
+            let birth = heap.deref_found(to, root, found)?;
             out.push_reserved(Line::Derefed { birth });
             Ok(())
         }

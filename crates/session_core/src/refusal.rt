@@ -1,39 +1,43 @@
 //! Why an item is refused, if it is: the checks in their order.
-ghost use Rattle.std.specs.Prelude.{◌≡◌, ◌≤◌, ◌+◌, [], ◌∷◌, ◌++◌, Some, is_none, length, false};
+ghost use Rattle.std.specs.Prelude.{◌≡◌, ◌+◌, [], ◌∷◌, ◌++◌, Some, is_none, length, option_map, false};
 ghost use Rattle.type_table.specs.Table.{value_at};
 ghost use Rattle.text_model.specs.Range.{is_above};
-ghost use Rattle.object_model.specs.Setup.{type_at};
 ghost use Rattle.object_model.specs.Sets.{is_in};
-ghost use Rattle.object_model.specs.Shapes.{is_fixed_shape, is_array_shape, is_weak_shape};
+ghost use Rattle.object_model.specs.Shapes.{is_weak_shape};
 ghost use Rattle.store_model.specs.Checks.{first_reason, setting_checks, type_checks, slots_checks, found_checks, born_checks, int_checks, ref_checks, copy_checks};
 ghost use Rattle.store_model.specs.StructChecks.{weak_checks, unpin_checks, queue_checks, register_checks, link_checks, struct_checks};
 ghost use Rattle.store_model.specs.Refusal.{checks_in_range, command_checks};
+ghost use Rattle.heap_core.specs.Found.{kind_of};
 ghost use Rattle.session_core.specs.Standing.{IsPlaced, setup_of, seen_if, types_in, refusal_of};
-ghost use Rattle.session_core.specs.Finding.{kind_for, kind_by};
+ghost use Rattle.session_core.specs.Finding.{kind_for, kind_by, source_kind_for, source_kind_by, type_for, type_by};
 
 use crate::checks::{
-    copy_refusal, dec_refusal, found_refusal, inc_refusal, int_refusal, link_refusal,
-    queue_refusal, ref_refusal, slot_refusal, slots_refusal, struct_refusal, weak_refusal,
+    array_refusal, copy_refusal, dec_refusal, fixed_refusal, inc_refusal, int_refusal,
+    link_refusal, queue_refusal, ref_refusal, slot_refusal, slots_refusal, struct_refusal,
+    weak_refusal,
 };
 use crate::session::Session;
 use crate::settings::is_outside;
-use heap_core::Heap;
+use crate::told::Looked;
+use heap_core::{Heap, kind_found};
 use store_model::{Command, Item, Kind, Reason, Shape, TypeInfo};
 use type_table::MAX_TYPES;
 
 impl Session {
-    /// The first reason for which the program refuses an item, if it does. `kind` tells of the object whose items it works on.
+    /// The first reason for which the program refuses an item, if it does. `looked` tells of what it works on.
     #[tactic(auto, unfolding(store_model::specs::Refusal::refusal_seen))]
-    pub(crate) fn refusal(&self, heap: &Heap, item: &Item, kind: Option<Kind>) -> Option<Reason>
+    pub(crate) fn refusal(&self, heap: &Heap, item: &Item, looked: Looked) -> Option<Reason>
         requires placed { IsPlaced self.now heap.now }
-        requires kind { kind ≡ kind_by (seen_if self.now.types heap.now) item.now }
+        requires kind { option_map kind_of looked.found ≡ kind_by (seen_if self.now.types heap.now) item.now }
+        requires source { option_map kind_of looked.source ≡ source_kind_by (seen_if self.now.types heap.now) item.now }
+        requires info { looked.info ≡ type_by (setup_of self.now heap.now) item.now }
         ensures { result ≡ refusal_of self.now heap.now item.now }
     {
         match *item {
             Item::Blank => None,
             Item::Setting { name, value } => self.setting_refusal(name, value),
             Item::TypeDef { id, .. } => self.type_refusal(heap, id),
-            Item::Command(command) => self.command_refusal(heap, &command, kind),
+            Item::Command(command) => self.command_refusal(heap, &command, looked),
         }
     }
 
@@ -70,33 +74,44 @@ impl Session {
     }
 
     /// The first reason for which a command is refused, if it is.
-    fn command_refusal(&self, heap: &Heap, command: &Command, kind: Option<Kind>) -> Option<Reason>
+    fn command_refusal(&self, heap: &Heap, command: &Command, looked: Looked) -> Option<Reason>
         requires placed { IsPlaced self.now heap.now }
-        requires kind { kind ≡ kind_for (seen_if self.now.types heap.now) command.now }
+        requires kind { option_map kind_of looked.found ≡ kind_for (seen_if self.now.types heap.now) command.now }
+        requires source { option_map kind_of looked.source ≡ source_kind_for (seen_if self.now.types heap.now) command.now }
+        requires info { looked.info ≡ type_for (setup_of self.now heap.now) command.now }
         ensures { result ≡ first_reason (command_checks (setup_of self.now heap.now) (seen_if self.now.types heap.now) command.now) }
     {
         if command.is_above() {
             return Some(Reason::Range);
         }
-        self.refusal_in_range(heap, command, kind)
+        let kind = kind_found(looked.found);
+        let source = kind_found(looked.source);
+        self.refusal_in_range(heap, command, kind, source, looked.info)
     }
 
     /// The same for a command none of whose numbers is out of range.
-    fn refusal_in_range(&self, heap: &Heap, command: &Command, kind: Option<Kind>) -> Option<Reason>
+    fn refusal_in_range(
+        &self,
+        heap: &Heap,
+        command: &Command,
+        kind: Option<Kind>,
+        source: Option<Kind>,
+        info: Option<TypeInfo>,
+    ) -> Option<Reason>
         requires placed { IsPlaced self.now heap.now }
         requires kind { kind ≡ kind_for (seen_if self.now.types heap.now) command.now }
+        requires source { source ≡ source_kind_for (seen_if self.now.types heap.now) command.now }
+        requires info { info ≡ type_for (setup_of self.now heap.now) command.now }
         requires in_range { is_above command.now ≡ false }
         ensures { result ≡ first_reason (checks_in_range (setup_of self.now heap.now) (seen_if self.now.types heap.now) command.now) }
     {
         let roots = self.settings.roots;
         match *command {
-            Command::NewFixed { root, type_id } => self.fixed_refusal(heap, root, type_id),
-            Command::NewArray { root, type_id, .. } => self.array_refusal(heap, root, type_id),
-            Command::NewWeak {
-                root,
-                type_id,
-                target,
-            } => self.new_weak_refusal(heap, root, type_id, target),
+            Command::NewFixed { root, .. } => fixed_refusal(roots, root, info),
+            Command::NewArray { root, .. } => array_refusal(roots, root, info),
+            Command::NewWeak { root, target, .. } => {
+                self.new_weak_refusal(heap, root, info, target)
+            }
             Command::Put { root, item, .. } => self.item_refusal(root, kind, item),
             Command::Get { root, item } => self.item_refusal(root, kind, item),
             Command::Link { root, item, from } => self.reference_refusal(root, from, kind, item),
@@ -107,7 +122,7 @@ impl Session {
                 from,
                 from_item,
                 count,
-            } => self.copies_refusal(heap, root, from, item + count, from_item + count),
+            } => self.copies_refusal(root, from, kind, source, item + count, from_item + count),
             Command::MoveRoot { to, from } => slots_refusal(roots, to, from),
             Command::DropRoot { root } => slot_refusal(roots, root),
             Command::Same { a, b } => slots_refusal(roots, a, b),
@@ -116,7 +131,7 @@ impl Session {
             Command::Place { root } => self.object_refusal(heap, root),
             Command::Pin { root } => self.object_refusal(heap, root),
             Command::Unpin { root } => self.unpin_refusal(heap, root),
-            Command::Deref { to, root } => self.deref_refusal(heap, to, root),
+            Command::Deref { to, root } => self.deref_refusal(to, root, kind),
             Command::Register { root, queue } => self.register_refusal(heap, root, queue),
             Command::NextFinal { to, queue } => self.next_refusal(to, queue),
             Command::MakeLink {
@@ -143,7 +158,10 @@ impl Session {
         if u64::from(root) >= self.settings.roots {
             return Some(Reason::NoRoot);
         }
-        found_refusal(self.kind_in(heap, root))
+        if self.is_full(heap, root) {
+            return None;
+        }
+        Some(Reason::NilRoot)
     }
 
     /// Of a whole number of the object in a slot, which is of this kind.
@@ -175,25 +193,19 @@ impl Session {
     /// Of a copy of references, up to these ends of the two ranges of items.
     fn copies_refusal(
         &self,
-        heap: &Heap,
         root: u32,
         from: u32,
+        kind: Option<Kind>,
+        source: Option<Kind>,
         end: u64,
         from_end: u64,
     ) -> Option<Reason>
-        requires { IsPlaced self.now heap.now }
-        ensures { let seen = seen_if self.now.types heap.now in
-            result ≡ first_reason (slots_checks self.now.settings.roots (root ∷ from ∷ []) ++ copy_checks (seen.kind root) (seen.kind from) end from_end) }
+        ensures { result ≡ first_reason (slots_checks self.now.settings.roots (root ∷ from ∷ []) ++ copy_checks kind source end from_end) }
     {
         if let Some(reason) = slots_refusal(self.settings.roots, root, from) {
             return Some(reason);
         }
-        copy_refusal(
-            self.kind_in(heap, root),
-            self.kind_in(heap, from),
-            end,
-            from_end,
-        )
+        copy_refusal(kind, source, end, from_end)
     }
 
     /// Of an object that is to be unpinned.
@@ -212,14 +224,13 @@ impl Session {
     }
 
     /// Of a weak object whose target is asked for.
-    fn deref_refusal(&self, heap: &Heap, to: u32, root: u32) -> Option<Reason>
-        requires { IsPlaced self.now heap.now }
-        ensures { result ≡ first_reason (slots_checks self.now.settings.roots (to ∷ root ∷ []) ++ weak_checks ((seen_if self.now.types heap.now).kind root)) }
+    fn deref_refusal(&self, to: u32, root: u32, kind: Option<Kind>) -> Option<Reason>
+        ensures { result ≡ first_reason (slots_checks self.now.settings.roots (to ∷ root ∷ []) ++ weak_checks kind) }
     {
         if let Some(reason) = slots_refusal(self.settings.roots, to, root) {
             return Some(reason);
         }
-        weak_refusal(self.kind_in(heap, root))
+        weak_refusal(kind)
     }
 
     /// Of an object that is to be registered.
@@ -279,56 +290,26 @@ impl Session {
         struct_refusal(self.struct_state(heap, number))
     }
 
-    /// Of the birth of an object of a fixed type.
-    fn fixed_refusal(&self, heap: &Heap, root: u32, type_id: u16) -> Option<Reason>
-        requires { IsPlaced self.now heap.now }
-        ensures { result ≡ first_reason (slots_checks self.now.settings.roots (root ∷ [])
-            ++ born_checks (type_at (setup_of self.now heap.now) type_id) is_fixed_shape) }
-    {
-        if u64::from(root) >= self.settings.roots {
-            return Some(Reason::NoRoot);
-        }
-        let Some(info) = self.type_info(heap, type_id) else {
-            return Some(Reason::NoType);
-        };
-        match info.shape {
-            Shape::Fixed { .. } => None,
-            _ => Some(Reason::WrongShape),
-        }
-    }
-
-    /// Of the birth of an array.
-    fn array_refusal(&self, heap: &Heap, root: u32, type_id: u16) -> Option<Reason>
-        requires { IsPlaced self.now heap.now }
-        ensures { result ≡ first_reason (slots_checks self.now.settings.roots (root ∷ [])
-            ++ born_checks (type_at (setup_of self.now heap.now) type_id) is_array_shape) }
-    {
-        if u64::from(root) >= self.settings.roots {
-            return Some(Reason::NoRoot);
-        }
-        let Some(info) = self.type_info(heap, type_id) else {
-            return Some(Reason::NoType);
-        };
-        match info.shape {
-            Shape::IntArray | Shape::RefArray => None,
-            _ => Some(Reason::WrongShape),
-        }
-    }
-
     /// Of the birth of a weak object for what a slot holds.
-    fn new_weak_refusal(&self, heap: &Heap, root: u32, type_id: u16, target: u32) -> Option<Reason>
+    fn new_weak_refusal(
+        &self,
+        heap: &Heap,
+        root: u32,
+        found: Option<TypeInfo>,
+        target: u32,
+    ) -> Option<Reason>
         requires { IsPlaced self.now heap.now }
         ensures { result ≡ first_reason (slots_checks self.now.settings.roots (root ∷ target ∷ [])
             ++ (found_checks ((seen_if self.now.types heap.now).kind target)
-            ++ born_checks (type_at (setup_of self.now heap.now) type_id) is_weak_shape)) }
+            ++ born_checks found is_weak_shape)) }
     {
         if let Some(reason) = slots_refusal(self.settings.roots, root, target) {
             return Some(reason);
         }
-        if self.kind_in(heap, target).is_none() {
+        if !self.is_full(heap, target) {
             return Some(Reason::NilRoot);
         }
-        let Some(info) = self.type_info(heap, type_id) else {
+        let Some(info) = found else {
             return Some(Reason::NoType);
         };
         match info.shape {

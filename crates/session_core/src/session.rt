@@ -6,12 +6,13 @@ ghost use Rattle.store_model.specs.Progress.{Progress};
 ghost use Rattle.object_model.specs.Setup.{defaults};
 ghost use Rattle.heap_core.specs.declared.fault.HeapFault.TheVariants.{Spent, OutOfMemory as NoMemory};
 ghost use Rattle.session_core.specs.Seen.{SessionSeen};
-ghost use Rattle.session_core.specs.Finding.{found_for};
-ghost use Rattle.session_core.specs.Standing.{IsPlaced, StandsAt, Answers, Sets, Adds, Begins, fault_told, refusal_of};
+ghost use Rattle.session_core.specs.Finding.{found_for, source_for, type_for};
+ghost use Rattle.session_core.specs.Standing.{IsPlaced, StandsAt, Answers, Sets, Adds, Begins, fault_told, refusal_of, setup_of};
 
 use crate::commands::do_command;
 use crate::settings::with_setting;
-use heap_core::{Found, Heap, HeapFault, kind_found};
+use crate::told::Looked;
+use heap_core::{Heap, HeapFault};
 use std::alloc::{AllocError, AllocFailed, Global};
 use std::marker::Model;
 use store_model::{Command, Item, Line, Reason, Settings, TypeInfo};
@@ -130,8 +131,8 @@ impl Session {
         requires { IsPlaced self.old heap.old }
         ensures answers { (at : Progress) → StandsAt self.old heap.old at → Answers at item.now self.new heap.new out.old.items out.new.items result }
     {
-        let found = self.found(heap, item);
-        if let Some(reason) = self.refusal(heap, item, kind_found(found)) {
+        let looked = self.looked(heap, item);
+        if let Some(reason) = self.refusal(heap, item, looked) {
             return Err(RunFault::Malformed(reason));
         }
         match *item {
@@ -144,20 +145,22 @@ impl Session {
                 Ok(()) => Ok(()),
                 Err(_) => Err(RunFault::OutOfMemory),
             },
-            Item::Command(command) => self.command(heap, &command, found, out),
+            Item::Command(command) => self.command(heap, &command, looked, out),
         }
     }
 
-    /// Does a command that is not refused, with what was found for it.
+    /// Does a command that is not refused, with what was looked at for it.
     fn command(
         &mut self,
         heap: &mut Heap,
         command: &Command,
-        found: Option<Found>,
+        looked: Looked,
         out: &mut Vec<Line>,
     ) -> Result<(), RunFault>
         requires placed { IsPlaced self.old heap.old }
-        requires found { found ≡ found_for heap.old command.now }
+        requires found { looked.found ≡ found_for heap.old command.now }
+        requires source { looked.source ≡ source_for heap.old command.now }
+        requires info { looked.info ≡ type_for (setup_of self.old heap.old) command.now }
         requires accepted { refusal_of self.old heap.old (CommandItem command.now) ≡ None }
         ensures { (at : Progress) → StandsAt self.old heap.old at →
             Answers at (CommandItem command.now) self.new heap.new out.old.items out.new.items result }
@@ -166,7 +169,7 @@ impl Session {
             Ok(()) => {}
             Err(fault) => return Err(run_fault(fault)),
         }
-        match do_command(heap, command, found, out) {
+        match do_command(heap, command, looked, out) {
             Ok(()) => Ok(()),
             Err(fault) => Err(run_fault(fault)),
         }

@@ -1,12 +1,11 @@
 -- Which words a block that is given back changes, and the sizes that stay.
-use Rattle.std.proofs.Common.{sym, subst, refl, ◌≡◌, ◌≢◌, ℕ, ◌+◌, ◌-◌, ◌*◌, ◌/◌, ◌<◌, ◌≤◌, ◌⊎◌, inl, inr, min, List, ◌∷◌, slice_index, arith, ◌∙◌, ap}
-use Rattle.std.proofs.lemmas.Nat.{div-mul-add}
+use Rattle.std.proofs.Common.{sym, subst, refl, ◌≡◌, ◌≢◌, ℕ, ◌+◌, ◌-◌, ◌*◌, ◌/◌, ◌<◌, ◌≤◌, ◌⊎◌, inl, inr, List, ◌∷◌, slice_index, arith, ◌∙◌, ap}
 use Rattle.heap_space.specs.Memory.{Memory}
 use Rattle.heap_space.specs.Extents.{Extent, KeepsWords}
 use Rattle.size_pages.specs.PageWords.{Words, word_in, IsInArenas}
 use Rattle.size_pages.specs.PageBlocks.{GivesBack, Clears}
 use Rattle.size_pages.specs.LiveBlocks.{page_at}
-use Rattle.size_pages.specs.PageLists.{IsPage, Unlinks, Links, SameSigns}
+use Rattle.size_pages.specs.PageLists.{Unlinks, Links, SameSigns}
 use Rattle.size_pages.specs.HasBlocks.{HasBlocksBut, HasBlocks, IsLive, KeepsSizes}
 use Rattle.size_pages.specs.Steps.{CanEnd, CanGiveFull, IsOnlyHeads, CanPutOn, CanTakeOff}
 use Rattle.size_pages.specs.Calls.{ChangesAround, IsPageOrNone}
@@ -68,18 +67,6 @@ sizes_heads a b h = record { page = h.page; pages_per_arena = h.pages_per_arena;
 
 pub sizes_then : (a b c : Pages) → KeepsSizes a b → KeepsSizes b c → KeepsSizes a c
 sizes_then a b c h g = record { page = g.page ∙ h.page; pages_per_arena = g.pages_per_arena ∙ h.pages_per_arena; small = g.small ∙ h.small }
-
-number_of : (size k : ℕ) → 0 < size → (page_at size k - 4294967296) / size ≡ k
-number_of size k some = ap (λ (x : ℕ). x / size) (let e : page_at size k - 4294967296 ≡ k * size + 0 = omega arith in e) ∙ div-mul-add k size 0 some
-
--- the number of a page is not above the lesser of it and another
-pub lowered_place : (size count page lowest : ℕ) → 0 < size → IsPage size count page → page_at size (min lowest ((page - 4294967296) / size)) ≤ page
-lowered_place size count page lowest some is =
-    let k = is.number in
-    let at : page ≡ page_at size k = is.is in
-    let number : (page - 4294967296) / size ≡ k = ap (λ (p : ℕ). (p - 4294967296) / size) at ∙ number_of size k some in
-    let less : min lowest ((page - 4294967296) / size) ≤ k = omega arith in
-    let up : page_at size (min lowest ((page - 4294967296) / size)) ≤ page_at size k = grind arith in omega arith
 
 pub end_keeps : (pages p2 : Pages) (m m2 m3 : Memory) (page a n list : ℕ) (c : CanEnd pages m page a n list) → IsOff pages m p2 m2 page → Unlinks (word_in m) (word_in m2) pages.heads.items p2.heads.items page list → IsOnlyHeads pages p2 → Clears (word_in m2) (word_in m3) page
     → (live : List Extent) (waiting : List ℕ) → HasBlocks pages m ((a, n) ∷ live) waiting → KeepsWords m m3 live

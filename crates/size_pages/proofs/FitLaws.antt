@@ -27,9 +27,6 @@ in_page_true size p x low high = grind (arith, nat_tests)
 pub in_page_false : (size p : ℕ) (x : Extent) → (x.0 < p) ⊎ (p + size ≤ x.0) → in_page size p x ≡ false
 in_page_false size p x out = grind (arith, nat_tests)
 
-pub in_page_tells : (size p : ℕ) (x : Extent) → ((in_page size p x ≡ true) × (p ≤ x.0) × (x.0 < p + size)) ⊎ ((in_page size p x ≡ false) × ((x.0 < p) ⊎ (p + size ≤ x.0)))
-in_page_tells size p x = grind (arith, nat_tests)
-
 each_case : (t : Extent → Bool) (P : Extent → Type 0) (x : Extent) (xs rest : List Extent) (b : Bool) → t x ≡ b → (Each P rest → Each P xs) → Each P (cond b (x ∷ rest) rest) → (b ≡ false → P x) → P x × Each P xs
 each_case t P x xs rest true e more all other = (all.0, more all.1)
 each_case t P x xs rest false e more all other = (other refl, more all)

@@ -1,5 +1,5 @@
 -- The births of the dead objects of a page are gathered slot by slot.
-use Rattle.std.proofs.Common.{◌≡◌, ◌≢◌, ℕ, ◌+◌, ◌-◌, ◌*◌, ◌/◌, ◌<◌, ◌≤◌, ◌⊎◌, inl, inr, Bool, true, false, cond, ◌&&◌, nat_lt, List, [], ◌∷◌, ◌++◌, map, append_assoc, append-nil, arith, refl, sym, ◌∙◌, ap, subst}
+use Rattle.std.proofs.Common.{not, ◌≡◌, ◌≢◌, ℕ, ◌+◌, ◌-◌, ◌*◌, ◌/◌, ◌<◌, ◌≤◌, ◌⊎◌, inl, inr, Bool, true, false, cond, ◌&&◌, nat_lt, List, [], ◌∷◌, ◌++◌, map, append_assoc, append-nil, arith, refl, sym, ◌∙◌, ap, subst}
 use Rattle.std.proofs.lemmas.Bool.{cases_Bool}
 use Rattle.std.proofs.lemmas.Bool.Decides.{nat_tests}
 use Rattle.std.proofs.lemmas.List.Sorted.{IsPermutation-refl, IsPermutation-sym, IsPermutation-trans, IsPermutation-cons, IsPermutation-middle, IsPermutation-to_front}
@@ -8,14 +8,14 @@ use Rattle.std.specs.List.Sorted.{IsPermutation}
 use Rattle.heap_space.specs.Memory.{Memory}
 use Rattle.heap_space.specs.Extents.{Extent, Each}
 use Rattle.heap_space.proofs.ExtentLaws.{Each-map}
-use Rattle.object_header.specs.Words.{has_flag}
+use Rattle.object_header.specs.Words.{has_flag, survives_sweep}
 use Rattle.object_header.specs.declared.flags.Flag.TheVariants.{Free}
 use Rattle.size_pages.specs.PageWords.{Words, word_in, CanStore, HasAll}
 use Rattle.size_pages.specs.PageBlocks.{IsBlockOf}
 use Rattle.size_pages.specs.LiveBlocks.{page_at, blocks_of, in_page}
 use Rattle.size_pages.specs.Headers.{HasHeaders}
 use Rattle.size_pages.specs.Listing.{CanListBlocks}
-use Rattle.size_pages.specs.Sweeping.{is_dead, dies, birth_in}
+use Rattle.size_pages.specs.Sweeping.{dies, birth_in}
 use Rattle.size_pages.specs.SlotSteps.{CanSweepAt, GathersBirths, HoldsNumbers}
 use Rattle.size_pages.specs.declared.Pages.{Pages}
 use Rattle.size_pages.proofs.FitLaws.{each_by_test, filter_skips}
@@ -97,7 +97,7 @@ filter_none t [] all = refl
 filter_none t (x ∷ xs) all = filter_skips t x xs all.0 ∙ filter_none t xs all.1
 
 pub dies_in : (w : Words) (size p : ℕ) (x : Extent) → in_page size p x ≡ false → dies w size p x ≡ false
-dies_in w size p x e = ap (λ (b : Bool). b && is_dead (w x.0)) e
+dies_in w size p x e = ap (λ (b : Bool). b && not (survives_sweep (w x.0))) e
 
 pub births_none : (pages : Pages) (m : Memory) (page class : ℕ) (c : CanListBlocks pages m page) → class ≡ word_in m page → class ≢ 0 → (old : List ℕ) → BirthsTo pages m page old old (page + 8 + 0 * class)
 births_none pages m page class c is_class some old = record {
@@ -158,7 +158,7 @@ passes_all pages m page class c is_class some t out live waiting h =
 
 module _ (pages : Pages) (m : Memory) (page class : ℕ) (c : CanListBlocks pages m page) (is_class : class ≡ word_in m page) (some : class ≢ 0) where
   pub births_slot : (i : ℕ) (old new last : List ℕ) → page + 8 + i * class + class ≤ word_in m (page + 3) → BirthsTo pages m page old new (page + 8 + i * class)
-      → ((has_flag (word_in m (page + 8 + i * class)) Free ≡ true) × (last ≡ new)) ⊎ (((has_flag (word_in m (page + 8 + i * class)) Free ≡ false) × (is_dead (word_in m (page + 8 + i * class)) ≡ false) × (last ≡ new)) ⊎ ((has_flag (word_in m (page + 8 + i * class)) Free ≡ false) × (is_dead (word_in m (page + 8 + i * class)) ≡ true) × (last ≡ new ++ word_in m (page + 8 + i * class + 1) ∷ [])))
+      → ((has_flag (word_in m (page + 8 + i * class)) Free ≡ true) × (last ≡ new)) ⊎ (((has_flag (word_in m (page + 8 + i * class)) Free ≡ false) × (survives_sweep (word_in m (page + 8 + i * class)) ≡ true) × (last ≡ new)) ⊎ ((has_flag (word_in m (page + 8 + i * class)) Free ≡ false) × (survives_sweep (word_in m (page + 8 + i * class)) ≡ false) × (last ≡ new ++ word_in m (page + 8 + i * class + 1) ∷ [])))
       → BirthsTo pages m page old last (page + 8 + (i + 1) * class)
   births_slot i old new last ends t which =
       let s = (listed_page pages m page c).slots (λ z. some (is_class ∙ z)) in
@@ -169,15 +169,16 @@ module _ (pages : Pages) (m : Memory) (page class : ℕ) (c : CanListBlocks page
       let d = dies (word_in m) pages.page page in
       let next : b + class ≡ page + 8 + (i + 1) * class = (let e : (i + 1) * class ≡ i * class + class = grind arith in omega arith) in
       let here : in_page pages.page page (b, class) ≡ true = grind (arith, nat_tests) in
-      let is : (v : Bool) → is_dead (word_in m b) ≡ v → d (b, class) ≡ v = λ v e. ap (λ (x : Bool). x && is_dead (word_in m b)) here ∙ e in
+      let is : (v : Bool) → survives_sweep (word_in m b) ≡ v → d (b, class) ≡ not v = λ v e.
+      ap (λ (x : Bool). x && not (survives_sweep (word_in m b))) here ∙ ap not e in
       let skip : last ≡ new → ((live : List Extent) (rest : List ℕ) → HasHeaders pages m live (page ∷ rest) → filter (passes d (b + class)) live ≡ filter (passes d b) live) → BirthsTo pages m page old last (b + class) = λ e same. subst (λ (xs : List ℕ). BirthsTo pages m page old xs (b + class)) (sym e) (births_skip pages m page old new b (b + class) same t) in
       subst (λ (place : ℕ). BirthsTo pages m page old last place) next (elim which [
         | inl h ↦ skip h.1 (λ live rest has. filter_steady (passes d) (passes_steady d) b (b + class) live (omega arith) (at_free pages m page class c is_class some i inside h.0 live (page ∷ rest) has))
         | inr k ↦ elim k [
           | inl h ↦ skip h.2 (λ live rest has. let p = split_at (passes d) (passes_steady d) b class live (at_live pages m page class c is_class some i inside h.0 live (page ∷ rest) has) in
-              let out : (k : ℕ) → passes d k (b, class) ≡ false = λ k. ap (λ (v : Bool). v && nat_lt b k) (is false h.1) in
+              let out : (k : ℕ) → passes d k (b, class) ≡ false = λ k. ap (λ (v : Bool). v && nat_lt b k) (is true h.1) in
               p.behind ∙ ap (λ (v : Bool). p.front ++ cond v ((b, class) ∷ p.back) p.back) (out (b + class) ∙ sym (out b)) ∙ sym p.before)
-          | inr h ↦ births_push pages m page old new last b class (omega arith) h.2 (is true h.1) (λ live rest has. at_live pages m page class c is_class some i inside h.0 live (page ∷ rest) has) t
+          | inr h ↦ births_push pages m page old new last b class (omega arith) h.2 (is false h.1) (λ live rest has. at_live pages m page class c is_class some i inside h.0 live (page ∷ rest) has) t
         ]
       ])
 

@@ -1,5 +1,5 @@
 -- An arena more, and which page a block comes from.
-use Rattle.std.proofs.Common.{◌≡◌, ◌≢◌, ℕ, ◌+◌, ◌*◌, ◌^◌, ◌<◌, ◌≤◌, inl, inr, List, [], ◌∷◌, length, replicate, slice_index, vec_capacity, arith, refl, sym, ◌∙◌, ap, subst}
+use Rattle.std.proofs.Common.{◌≡◌, ◌≢◌, ℕ, ◌+◌, ◌*◌, ◌<◌, ◌≤◌, inl, inr, List, [], ◌∷◌, length, replicate, slice_index, vec_capacity, arith, refl, sym, ◌∙◌, ap, subst}
 use Rattle.std.proofs.lemmas.Bool.{cases_lt}
 use Rattle.std.proofs.lemmas.Bool.Decides.{eqb_tells, nat_tests}
 use Rattle.std.specs.List.{filter}
@@ -203,6 +203,3 @@ page_can pages m k s below =
     let wide : 64 ≤ pages.page = f.blocks.size_low in
     let part : page_at pages.page k + pages.page ≤ page_at pages.page pages.count = pages_part pages.page k pages.count below in
     places_of f (page_at pages.page k) (omega arith) (omega arith)
-
-pub product_fits : (size k : ℕ) → page_at size k < 1099511627776 → k * size < 2 ^ 64
-product_fits size k h = omega arith

@@ -6,7 +6,7 @@ use Rattle.size_pages.specs.PageWords.{word_in, HasAll, IsInArenas}
 use Rattle.size_pages.specs.PageBlocks.{Clears}
 use Rattle.size_pages.specs.LiveBlocks.{page_at}
 use Rattle.size_pages.specs.PageLists.{IsPage, list_number, Unlinks, Links, SameSigns}
-use Rattle.size_pages.specs.HasBlocks.{HasBlocksBut, HasBlocks, KeepsSizes}
+use Rattle.size_pages.specs.HasBlocks.{HasBlocksBut, HasBlocks}
 use Rattle.size_pages.specs.Steps.{CanPutOn, IsOnlyHeads}
 use Rattle.size_pages.specs.Growth.{IsLowered}
 use Rattle.size_pages.specs.SweepSteps.{IsOnlyLists}
@@ -32,9 +32,6 @@ first_on pages m page c =
 pub first_off : (pages after : Pages) (m new : Memory) (page : ℕ) → CanRelist pages m page → Unlinks (word_in m) (word_in new) pages.heads.items after.heads.items page 1 → IsInArenas m new → IsOnlyLists pages after → after.waiting ≡ pages.waiting - 1 → (live : List Extent) (rest : List ℕ) → HasBlocks pages m live (page ∷ rest) → HasBlocksBut after new live rest page
 first_off pages after m new page c u s only less live rest f =
     off_any pages after m new page 1 (first_on pages m page c) u s only live (page ∷ rest) rest f (λ e. refl) (λ n. absurd (n refl)) (less ∙ (let e : pages.waiting ≡ length (page ∷ rest) = f.waits in omega arith)) f.rising.1
-
-sizes_of : (a b : Pages) → IsOnlyLists a b → KeepsSizes a b
-sizes_of a b h = record { page = h.page; pages_per_arena = h.pages_per_arena; small = h.small }
 
 page_after : (a b : Pages) (page : ℕ) → b.page ≡ a.page → b.count ≡ a.count → IsPage a.page a.count page → IsPage b.page b.count page
 page_after a b page size count is = subst (λ (s : ℕ). IsPage s b.count page) (sym size) (subst (λ (k : ℕ). IsPage a.page k page) (sym count) is)

@@ -6,7 +6,7 @@ use Rattle.std.specs.List.{filter}
 use Rattle.heap_space.specs.Memory.{Memory}
 use Rattle.heap_space.specs.Extents.{Extent, Each, IsInside, IsApart, KeepsWords, begins_between}
 use Rattle.heap_space.proofs.ExtentLaws.{Each-map, Each-both, Each-into, Each-out}
-use Rattle.object_header.specs.Words.{has_flag, without_flag}
+use Rattle.object_header.specs.Words.{has_flag, without_flag, survives_sweep}
 use Rattle.object_header.specs.declared.flags.Flag.TheVariants.{Free, Visited}
 use Rattle.size_pages.specs.PageWords.{Words, word_in, CanStore, IsInArenas, IsStored}
 use Rattle.size_pages.specs.PageBlocks.{GivesBack}
@@ -14,7 +14,7 @@ use Rattle.size_pages.specs.LiveBlocks.{page_at, in_page}
 use Rattle.size_pages.specs.HasBlocks.{HasBlocks, IsLive}
 use Rattle.size_pages.specs.Steps.{CanPut}
 use Rattle.size_pages.specs.Headers.{HasHeaders}
-use Rattle.size_pages.specs.Sweeping.{is_dead, dies, kept_blocks, swept_word}
+use Rattle.size_pages.specs.Sweeping.{dies, kept_blocks, swept_word}
 use Rattle.size_pages.specs.SlotSteps.{CanSweepAt, CanSweepSlot, SweepsSlot, SweepsBlocks}
 use Rattle.size_pages.specs.declared.Pages.{Pages}
 use Rattle.size_pages.proofs.EndLaws.{give_facts, give_plain}
@@ -251,8 +251,9 @@ module _ (pages : Pages) (m after : Memory) (page class : ℕ) (c : CanSweepAt p
         can = can_store_after m after b t.arenas (g.all b (omega arith) (omega arith));
       }
 
-  dies_here : SlotAt → (v : Bool) → is_dead (word_in m (page + 8 + i * class)) ≡ v → dies (word_in m) pages.page page (page + 8 + i * class, class) ≡ v
-  dies_here s v e = ap (λ (x : Bool). x && is_dead (word_in m (page + 8 + i * class))) s.here ∙ e
+  dies_here : SlotAt → (v : Bool) → survives_sweep (word_in m (page + 8 + i * class)) ≡ v
+      → dies (word_in m) pages.page page (page + 8 + i * class, class) ≡ not v
+  dies_here s v e = ap (λ (x : Bool). x && not (survives_sweep (word_in m (page + 8 + i * class)))) s.here ∙ ap not e
 
   among_here : has_flag (word_in after (page + 8 + i * class)) Free ≡ false → (live : List Extent) (rest : List ℕ) → HasHeaders pages m live (page ∷ rest) → Among (page + 8 + i * class) class live
   among_here flag live rest h =
@@ -277,9 +278,9 @@ module _ (pages : Pages) (m after : Memory) (page class : ℕ) (c : CanSweepAt p
         | inl free ↦ swept_free pages m new page b (b + class) (omega arith)
             (λ live rest h. at_free pages m page class g.can is_class (λ z. g.used (sym is_class ∙ z)) i (omega arith) (ap (λ (k : ℕ). has_flag k Free) (sym s.word) ∙ free) live (page ∷ rest) h)
             (swept_words pages m after new page b (step.free free) arenas t)
-        | inr live ↦ elim (cases_Bool (is_dead (word_in after b))) [
-          | inl dead ↦ swept_dead pages m after new page b class two s.is (omega arith) s.high (among_here live) t arenas (dies_here s true (ap is_dead (sym s.word) ∙ dead)) (step.dead live dead)
-          | inr lives ↦ swept_kept pages m after new page b class two s.is (omega arith) s.high (among_here live) t arenas (dies_here s false (ap is_dead (sym s.word) ∙ lives)) s.here (step.kept live lives)
+        | inr live ↦ elim (cases_Bool (survives_sweep (word_in after b))) [
+          | inl lives ↦ swept_kept pages m after new page b class two s.is (omega arith) s.high (among_here live) t arenas (dies_here s true (ap survives_sweep (sym s.word) ∙ lives)) s.here (step.kept live lives)
+          | inr dead ↦ swept_dead pages m after new page b class two s.is (omega arith) s.high (among_here live) t arenas (dies_here s false (ap survives_sweep (sym s.word) ∙ dead)) (step.dead live dead)
         ]
       ])
 
@@ -298,7 +299,7 @@ swept_none pages m page class c is_class =
       | inl e ↦ (let low : page + 8 ≤ x.0 = (part e).0 in ap (λ (v : Bool). in_page pages.page page x && v) (let l : nat_lt x.0 place ≡ false = grind (arith, nat_tests) in l) ∙ and_false (in_page pages.page page x))
       | inr e ↦ ap (λ (v : Bool). v && nat_lt x.0 place) e
     ]) live (page_part pages m page class g.can is_class (λ z. g.used (sym is_class ∙ z)) live (page ∷ rest) h) in
-    let all : (live : List Extent) (rest : List ℕ) → HasHeaders pages m live (page ∷ rest) → filter (stays d place) live ≡ live = λ live rest h. filter_all (stays d place) live (Each-map (λ x. (in_page pages.page page x && nat_lt x.0 place) ≡ false) (λ x. stays d place x ≡ true) (λ x e. ap not (and_swap (in_page pages.page page x) (is_dead (word_in m x.0)) (nat_lt x.0 place) e)) live (early live rest h)) in
+    let all : (live : List Extent) (rest : List ℕ) → HasHeaders pages m live (page ∷ rest) → filter (stays d place) live ≡ live = λ live rest h. filter_all (stays d place) live (Each-map (λ x. (in_page pages.page page x && nat_lt x.0 place) ≡ false) (λ x. stays d place x ≡ true) (λ x e. ap not (and_swap (in_page pages.page page x) (not (survives_sweep (word_in m x.0))) (nat_lt x.0 place) e)) live (early live rest h)) in
     record {
       fits = λ live rest h. subst (λ (xs : List Extent). HasBlocks pages m xs (page ∷ rest)) (sym (all live rest h)) h.fits;
       words = λ live rest h. subst (Each (λ x. (a : ℕ) → IsInside x a → word_in m a ≡ word_below (word_in m) pages.page page place x a)) (sym (all live rest h))
@@ -318,7 +319,7 @@ swept_all pages m after page place class c is_class is_last t =
       | inl e ↦ (let up : x.0 < w (page + 3) = (part e).1 in ap (λ (v : Bool). in_page pages.page page x && v) (let l : nat_lt x.0 place ≡ true = grind (arith, nat_tests) in l) ∙ and_true (in_page pages.page page x))
       | inr e ↦ ap (λ (v : Bool). v && nat_lt x.0 place) e ∙ sym e
     ]) live (page_part pages m page class g.can is_class (λ z. g.used (sym is_class ∙ z)) live (page ∷ rest) h) in
-    let all : (live : List Extent) (rest : List ℕ) → HasHeaders pages m live (page ∷ rest) → filter (stays d place) live ≡ kept_blocks w pages.page page live = λ live rest h. filter_same (stays d place) (λ x. not (d x)) live (Each-map (λ x. (in_page pages.page page x && nat_lt x.0 place) ≡ in_page pages.page page x) (λ x. stays d place x ≡ not (d x)) (λ x e. ap not (and_same (in_page pages.page page x) (is_dead (w x.0)) (nat_lt x.0 place) e)) live (late live rest h)) in
+    let all : (live : List Extent) (rest : List ℕ) → HasHeaders pages m live (page ∷ rest) → filter (stays d place) live ≡ kept_blocks w pages.page page live = λ live rest h. filter_same (stays d place) (λ x. not (d x)) live (Each-map (λ x. (in_page pages.page page x && nat_lt x.0 place) ≡ in_page pages.page page x) (λ x. stays d place x ≡ not (d x)) (λ x e. ap not (and_same (in_page pages.page page x) (not (survives_sweep (w x.0))) (nat_lt x.0 place) e)) live (late live rest h)) in
     record {
       fits = λ live rest h. subst (λ (xs : List Extent). HasBlocks pages after xs (page ∷ rest)) (all live rest h) (t.fits live rest h);
       words = λ live rest h. subst (Each (λ x. (a : ℕ) → IsInside x a → word_in after a ≡ swept_word w pages.page page x a)) (all live rest h)

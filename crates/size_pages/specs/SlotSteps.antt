@@ -3,14 +3,14 @@ use Rattle.std.specs.Prelude.{◌≡◌, ℕ, true, false, List, ◌∷◌, ◌+
 use Rattle.std.specs.List.Sorted.{IsPermutation}
 use Rattle.heap_space.specs.Memory.{Memory}
 use Rattle.heap_space.specs.Extents.{Extent, Each, IsInside, KeepsWords}
-use Rattle.object_header.specs.Words.{has_flag, without_flag}
+use Rattle.object_header.specs.Words.{has_flag, without_flag, survives_sweep}
 use Rattle.object_header.specs.declared.flags.Flag.TheVariants.{Free, Visited}
 use Rattle.size_pages.specs.PageWords.{Words, word_in, CanStore, IsInArenas, IsStored}
 use Rattle.size_pages.specs.PageBlocks.{GivesBack}
 use Rattle.size_pages.specs.HasBlocks.{HasBlocks, KeepsSizes}
 use Rattle.size_pages.specs.Steps.{CanPut}
 use Rattle.size_pages.specs.Headers.{HasHeaders}
-use Rattle.size_pages.specs.Sweeping.{is_dead, birth_in, dead_blocks, kept_blocks, swept_word}
+use Rattle.size_pages.specs.Sweeping.{birth_in, dead_blocks, kept_blocks, swept_word}
 use Rattle.size_pages.specs.declared.Pages.{Pages}
 
 -- the page is the first waiting one
@@ -32,13 +32,13 @@ pub record HoldsNumbers (old new : List ℕ) : Type 0 where
 -- the words at a slot that a sweep reads and writes
 pub record CanSweepSlot (m : Memory) (page block : ℕ) : Type 0 where
   pub word : CanStore m block
-  pub dead : has_flag (word_in m block) Free ≡ false → is_dead (word_in m block) ≡ true → CanPut m page block
+  pub dead : has_flag (word_in m block) Free ≡ false → survives_sweep (word_in m block) ≡ false → CanPut m page block
 
 -- a slot is swept: a free block stays, a dead one goes on the chain, and another loses the flag Visited
 pub record SweepsSlot (old new : Words) (page block : ℕ) : Type 0 where
   pub free : has_flag (old block) Free ≡ true → (e : ℕ) → new e ≡ old e
-  pub dead : has_flag (old block) Free ≡ false → is_dead (old block) ≡ true → GivesBack old new page block
-  pub kept : has_flag (old block) Free ≡ false → is_dead (old block) ≡ false
+  pub dead : has_flag (old block) Free ≡ false → survives_sweep (old block) ≡ false → GivesBack old new page block
+  pub kept : has_flag (old block) Free ≡ false → survives_sweep (old block) ≡ true
       → IsStored old new block (without_flag (old block) Visited)
 
 -- all slots of the page are swept

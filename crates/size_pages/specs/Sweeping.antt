@@ -3,21 +3,17 @@ use Rattle.std.specs.Prelude.{◌≡◌, ℕ, ◌+◌, Bool, ◌&&◌, not, ◌=
 use Rattle.std.specs.List.Sorted.{IsPermutation}
 use Rattle.heap_space.specs.Memory.{Memory}
 use Rattle.heap_space.specs.Extents.{Extent, Each, IsInside}
-use Rattle.object_header.specs.Words.{has_flag, without_flag}
-use Rattle.object_header.specs.declared.flags.Flag.TheVariants.{Visited, Shadow}
+use Rattle.object_header.specs.Words.{survives_sweep, without_flag}
+use Rattle.object_header.specs.declared.flags.Flag.TheVariants.{Visited}
 use Rattle.size_pages.specs.PageWords.{Words, word_in}
 use Rattle.size_pages.specs.LiveBlocks.{in_page}
 use Rattle.size_pages.specs.HasBlocks.{HasBlocks}
 use Rattle.size_pages.specs.Headers.{HasHeaders}
 use Rattle.size_pages.specs.declared.Pages.{Pages}
 
--- whether the first word is that of an object that was not visited: it has neither the flag Visited nor Shadow
-abbrev pub is_dead : ℕ → Bool
-is_dead word = not (has_flag word Visited) && not (has_flag word Shadow)
-
 -- whether the block is freed where the page at p is swept
 abbrev pub dies : Words → ℕ → ℕ → Extent → Bool
-dies w size p x = in_page size p x && is_dead (w x.0)
+dies w size p x = in_page size p x && not (survives_sweep (w x.0))
 
 -- the live blocks that are freed, and those that stay
 abbrev pub dead_blocks : Words → ℕ → ℕ → List Extent → List Extent

@@ -11,7 +11,7 @@ ghost use Rattle.size_pages.specs.declared.kinds.PageKind.TheVariants.{Waiting};
 ghost use Rattle.size_pages.specs.PageLists.{SameSigns, Unlinks};
 ghost use Rattle.size_pages.specs.Headers.{HasHeaders};
 ghost use Rattle.size_pages.specs.SweepSteps.{IsOnlyLists};
-ghost use Rattle.size_pages.specs.Sweeping.{CanSweep, SweepsPage, is_dead};
+ghost use Rattle.size_pages.specs.Sweeping.{CanSweep, SweepsPage};
 ghost use Rattle.size_pages.specs.SlotSteps.{CanSweepAt, CanSweepSlot, GathersBirths, HoldsNumbers};
 ghost use Rattle.size_pages.specs.SlotSteps.{SweepsBlocks, SweepsSlot, CanRelist, Relists};
 
@@ -22,15 +22,8 @@ use crate::kinds::WAITING_LIST;
 use crate::links::{first, unlink};
 use crate::words::{load, store};
 use heap_space::Space;
-use object_header::{Flag, clear, is_set};
+use object_header::{Flag, clear, is_set, survives_sweep};
 use std::alloc::AllocError;
-
-/// Whether a live block with this first word holds an object that was not visited.
-fn is_dead(word: u64) -> bool
-    ensures { result ≡ is_dead word }
-{
-    !is_set(word, Flag::Visited) && !is_set(word, Flag::Shadow)
-}
 
 /// How many blocks of the page were handed out ever.
 fn slots(space: &Space, page: u64, class: u64) -> u64
@@ -101,7 +94,7 @@ impl Pages {
         for slot in 0..count {
             let block = page + HEADER + slot * class;
             let word = load(space, block);
-            if !is_set(word, Flag::Free) && is_dead(word) {
+            if !is_set(word, Flag::Free) && !survives_sweep(word) {
                 freed.push(load(space, block + 1))?;
             }
         }
@@ -164,7 +157,7 @@ fn sweep_slot(space: &mut Space, page: u64, block: u64)
     if is_set(word, Flag::Free) {
         return;
     }
-    if is_dead(word) {
+    if !survives_sweep(word) {
         put_on_chain(space, page, block);
         return;
     }

@@ -2,7 +2,7 @@
 use Rattle.std.proofs.Common.{◌≡◌, ℕ, ◌⊎◌, Bool, true, false, IsTrue, List, [], ◌∷◌, ◌++◌, refl, sym, ap, subst, inl, inr}
 use Rattle.std.specs.Prelude.{◌==◌, ◌||◌}
 use Rattle.std.proofs.lemmas.Bool.Decides.{eqb_tells}
-use Rattle.object_model.specs.Sets.{is_in}
+use Rattle.object_model.specs.Sets.{is_in, AreDifferent}
 use Rattle.object_model.proofs.Members.{is_in-head, is_in-tail, is_in-cases, is_in-nil}
 use Rattle.weak_lists.specs.Cleared.{once_after}
 
@@ -46,11 +46,6 @@ once-new seen (y ∷ xs) x none new =
         → once_after seen ((y ∷ xs) ++ x ∷ []) ≡ once_after seen (y ∷ xs) ++ x ∷ []
     go true e same other = rw e same
     go false e same other = rw e (ap (λ l. y ∷ l) other)
-
--- no place comes twice
-abbrev pub AreDifferent : List ℕ → Type 0
-AreDifferent [] = Unit {0}
-AreDifferent (x ∷ xs) = (is_in x xs ≡ false) × AreDifferent xs
 
 once-unseen : (seen xs : List ℕ) → ((x : ℕ) → IsTrue (is_in x xs) → is_in x seen ≡ false) → AreDifferent xs → once_after seen xs ≡ xs
 once-unseen seen [] new differ = refl

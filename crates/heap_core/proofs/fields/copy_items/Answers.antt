@@ -1,74 +1,88 @@
-use Rattle.std.proofs.Common.{◌≡◌, ◌≤◌, ◌<◌, ℕ, [], sym, subst, arith}
-use Rattle.text_model.specs.declared.command.Command.TheVariants.{CopyRefs}
+use Rattle.std.proofs.Common.{◌≡◌, ◌≤◌, ◌<◌, ℕ, sym, ap, subst, arith}
 use Rattle.heap_parts.specs.Parts.{HeapParts, place_in}
-use Rattle.heap_parts.specs.Copies.{with_copy}
 use Rattle.heap_parts.specs.Remembers.{CanRemember, RemembersItems}
-use Rattle.heap_core.specs.Commands.{AreReady, PartsDo}
-use Rattle.heap_core.proofs.CopyReady.{HasCopy, copy_ready}
-use Rattle.heap_core.proofs.CopyCalls.{copy_can, copy_ready_after, copy_young_does, copy_old_does}
+use Rattle.heap_core.specs.declared.found.Found.{Found}
+use Rattle.heap_core.proofs.FoundCalls.{Sees}
+use Rattle.heap_core.proofs.CopyCalls.{copy_can}
+use Rattle.heap_core.proofs.CopyFound.{target_finds, source_finds, target_sees, source_sees, copy_still, young_copied, old_copied}
 use Rattle.heap_core.proofs.fields.copy_items.Goals as goal
 
-young-at : (place root : ℕ) → place ≡ root → place < 4294967296 → root < 4294967296
-young-at place root is low = omega (arith, is, low)
+at-root : (heap : HeapParts) (root : ℕ) (seen : Found) → Sees heap root seen → seen.place ≡ place_in heap root
+at-root heap root seen s = ap (λ (f : Found). f.place) s.is
 
-old-at : (place root : ℕ) → place ≡ root → 4294967296 ≤ place → 4294967296 ≤ root
-old-at place root is high = omega (arith, is, high)
+low-at : (heap : HeapParts) (root : ℕ) (seen : Found) → Sees heap root seen → seen.place < 4294967296 → place_in heap root < 4294967296
+low-at heap root seen s low = subst (λ (p : ℕ). p < 4294967296) (at-root heap root seen s) low
 
--- what is known after the items of a settled object were remembered
-copy_after : (now new : HeapParts) (place root item from oi n : ℕ) → AreReady now (CopyRefs root item from oi n) → place ≡ place_in now root → 4294967296 ≤ place
-    → RemembersItems now new place item n → HasCopy new root item from oi n × PartsDo now (with_copy new root item from oi n) (CopyRefs root item from oi n) []
-copy_after now new place root item from oi n ready is high r =
-    let old = old-at place (place_in now root) is high in
-    let remembers = subst (λ (p : ℕ). RemembersItems now new p item n) is r in
-    (copy_ready_after now new root item from oi n ready old remembers, copy_old_does now new root item from oi n ready old remembers)
+high-at : (heap : HeapParts) (root : ℕ) (seen : Found) → Sees heap root seen → 4294967296 ≤ seen.place → 4294967296 ≤ place_in heap root
+high-at heap root seen s high = subst (λ (p : ℕ). 4294967296 ≤ p) (at-root heap root seen s) high
 
-pub copy_refs-requires-clause-object : goal.copy_refs-requires-clause-object
-copy_refs-requires-clause-object c = (copy_ready c.args.parts.now c.args.root c.args.i c.args.from c.args.j c.args.n c.requires).object
+remembered : (heap new : HeapParts) (root item n : ℕ) (seen : Found) → Sees heap root seen → RemembersItems heap new seen.place item n → RemembersItems heap new (place_in heap root) item n
+remembered heap new root item n seen s r = subst (λ (p : ℕ). RemembersItems heap new p item n) (at-root heap root seen s) r
 
-pub copy_refs-requires-clause-from_object : goal.copy_refs-requires-clause-from_object
-copy_refs-requires-clause-from_object c = (copy_ready c.args.parts.now c.args.root c.args.i c.args.from c.args.j c.args.n c.requires).from_object
+pub unreachable-requires : goal.unreachable-requires
+unreachable-requires c = target_finds c.args.parts.now c.args.root c.args.i c.args.from c.args.j c.args.n c.requires.ready c.args.found c.requires.found c.in_default.is
+
+pub unreachable-requires-in_default-source : goal.unreachable-requires-in_default-source
+unreachable-requires-in_default-source c = source_finds c.args.parts.now c.args.root c.args.i c.args.from c.args.j c.args.n c.requires.ready c.args.source c.requires.source c.in_default-source.is
+
+pub copy_refs-requires-clause-to : goal.copy_refs-requires-clause-to
+copy_refs-requires-clause-to c =
+    (target_sees c.args.parts.now c.args.root c.args.i c.args.from c.args.j c.args.n c.requires.ready c.args.found c.in-Some.target c.requires.found c.in-Some.is).0.found
+
+pub copy_refs-requires-clause-from : goal.copy_refs-requires-clause-from
+copy_refs-requires-clause-from c =
+    (source_sees c.args.parts.now c.args.root c.args.i c.args.from c.args.j c.args.n c.requires.ready c.args.source c.in-Some-source.seen c.requires.source c.in-Some-source.is).0.found
 
 pub copy_refs-requires-clause-items : goal.copy_refs-requires-clause-items
-copy_refs-requires-clause-items c = (copy_ready c.args.parts.now c.args.root c.args.i c.args.from c.args.j c.args.n c.requires).items
+copy_refs-requires-clause-items c =
+    (target_sees c.args.parts.now c.args.root c.args.i c.args.from c.args.j c.args.n c.requires.ready c.args.found c.in-Some.target c.requires.found c.in-Some.is).1
 
 pub copy_refs-requires-clause-from_items : goal.copy_refs-requires-clause-from_items
-copy_refs-requires-clause-from_items c = (copy_ready c.args.parts.now c.args.root c.args.i c.args.from c.args.j c.args.n c.requires).from_items
+copy_refs-requires-clause-from_items c =
+    (source_sees c.args.parts.now c.args.root c.args.i c.args.from c.args.j c.args.n c.requires.ready c.args.source c.in-Some-source.seen c.requires.source c.in-Some-source.is).1
 
 pub returns-then-target-lt-FIRST_OLD-clause-does : goal.returns-then-target-lt-FIRST_OLD-clause-does
 returns-then-target-lt-FIRST_OLD-clause-does c =
-    let now : HeapParts = c.args.parts.now in
-    subst (λ (h : HeapParts). PartsDo now h (CopyRefs c.args.root c.args.i c.args.from c.args.j c.args.n) []) (sym c.copy_refs.ensures)
-    (copy_young_does now c.args.root c.args.i c.args.from c.args.j c.args.n c.requires
-    (young-at c.place-target.result (place_in now c.args.root) c.place-target.ensures c.if-target-lt-FIRST_OLD.true))
+    let t = (target_sees c.args.parts.now c.args.root c.args.i c.args.from c.args.j c.args.n c.requires.ready c.args.found c.in-Some.target c.requires.found c.in-Some.is).0 in
+    let s = (source_sees c.args.parts.now c.args.root c.args.i c.args.from c.args.j c.args.n c.requires.ready c.args.source c.in-Some-source.seen c.requires.source c.in-Some-source.is).0 in
+    young_copied c.args.parts.now c.copy_refs.new.parts c.args.root c.args.i c.args.from c.args.j c.args.n c.in-Some.target c.in-Some-source.seen c.requires.ready t s
+    (low-at c.args.parts.now c.args.root c.in-Some.target t c.if-target-lt-FIRST_OLD.true) c.copy_refs.ensures
 
 pub remember_items-requires : goal.remember_items-requires
 remember_items-requires c =
     let now : HeapParts = c.args.parts.now in
-    subst (λ (p : ℕ). CanRemember now p c.args.i c.args.n) (sym c.place-target.ensures)
-    (copy_can now c.args.root c.args.i c.args.from c.args.j c.args.n c.requires (old-at c.place-target.result (place_in now c.args.root) c.place-target.ensures c.if-target-lt-FIRST_OLD.false))
+    let t = (target_sees c.args.parts.now c.args.root c.args.i c.args.from c.args.j c.args.n c.requires.ready c.args.found c.in-Some.target c.requires.found c.in-Some.is).0 in
+    subst (λ (p : ℕ). CanRemember now p c.args.i c.args.n) (sym (at-root now c.args.root c.in-Some.target t))
+    (copy_can now c.args.root c.args.i c.args.from c.args.j c.args.n c.requires.ready (high-at now c.args.root c.in-Some.target t c.if-target-lt-FIRST_OLD.false))
 
-pub copy_refs-requires-2-clause-object : goal.copy_refs-requires-2-clause-object
-copy_refs-requires-2-clause-object c =
-    (copy_after c.args.parts.now c.remember_items.new.self c.place-target.result c.args.root c.args.i c.args.from c.args.j c.args.n c.requires c.place-target.ensures
-    c.if-target-lt-FIRST_OLD.false c.in_ok-remember_items.ensures.remembers).0.object
+pub copy_refs-requires-2-clause-to : goal.copy_refs-requires-2-clause-to
+copy_refs-requires-2-clause-to c =
+    let now : HeapParts = c.args.parts.now in
+    let t = (target_sees c.args.parts.now c.args.root c.args.i c.args.from c.args.j c.args.n c.requires.ready c.args.found c.in-Some.target c.requires.found c.in-Some.is).0 in
+    let s = (source_sees c.args.parts.now c.args.root c.args.i c.args.from c.args.j c.args.n c.requires.ready c.args.source c.in-Some-source.seen c.requires.source c.in-Some-source.is).0 in
+    (copy_still now c.remember_items.new.self c.args.root c.args.i c.args.from c.args.j c.args.n c.in-Some.target c.in-Some-source.seen c.requires.ready t s (high-at now c.args.root c.in-Some.target t c.if-target-lt-FIRST_OLD.false)
+    (remembered now c.remember_items.new.self c.args.root c.args.i c.args.n c.in-Some.target t c.in_ok-remember_items.ensures.remembers)).0.found
 
-pub copy_refs-requires-2-clause-from_object : goal.copy_refs-requires-2-clause-from_object
-copy_refs-requires-2-clause-from_object c =
-    (copy_after c.args.parts.now c.remember_items.new.self c.place-target.result c.args.root c.args.i c.args.from c.args.j c.args.n c.requires c.place-target.ensures
-    c.if-target-lt-FIRST_OLD.false c.in_ok-remember_items.ensures.remembers).0.from_object
+pub copy_refs-requires-2-clause-from : goal.copy_refs-requires-2-clause-from
+copy_refs-requires-2-clause-from c =
+    let now : HeapParts = c.args.parts.now in
+    let t = (target_sees c.args.parts.now c.args.root c.args.i c.args.from c.args.j c.args.n c.requires.ready c.args.found c.in-Some.target c.requires.found c.in-Some.is).0 in
+    let s = (source_sees c.args.parts.now c.args.root c.args.i c.args.from c.args.j c.args.n c.requires.ready c.args.source c.in-Some-source.seen c.requires.source c.in-Some-source.is).0 in
+    (copy_still now c.remember_items.new.self c.args.root c.args.i c.args.from c.args.j c.args.n c.in-Some.target c.in-Some-source.seen c.requires.ready t s (high-at now c.args.root c.in-Some.target t c.if-target-lt-FIRST_OLD.false)
+    (remembered now c.remember_items.new.self c.args.root c.args.i c.args.n c.in-Some.target t c.in_ok-remember_items.ensures.remembers)).1.found
 
 pub copy_refs-requires-2-clause-items : goal.copy_refs-requires-2-clause-items
 copy_refs-requires-2-clause-items c =
-    (copy_after c.args.parts.now c.remember_items.new.self c.place-target.result c.args.root c.args.i c.args.from c.args.j c.args.n c.requires c.place-target.ensures
-    c.if-target-lt-FIRST_OLD.false c.in_ok-remember_items.ensures.remembers).0.items
+    (target_sees c.args.parts.now c.args.root c.args.i c.args.from c.args.j c.args.n c.requires.ready c.args.found c.in-Some.target c.requires.found c.in-Some.is).1
 
 pub copy_refs-requires-2-clause-from_items : goal.copy_refs-requires-2-clause-from_items
 copy_refs-requires-2-clause-from_items c =
-    (copy_after c.args.parts.now c.remember_items.new.self c.place-target.result c.args.root c.args.i c.args.from c.args.j c.args.n c.requires c.place-target.ensures
-    c.if-target-lt-FIRST_OLD.false c.in_ok-remember_items.ensures.remembers).0.from_items
+    (source_sees c.args.parts.now c.args.root c.args.i c.args.from c.args.j c.args.n c.requires.ready c.args.source c.in-Some-source.seen c.requires.source c.in-Some-source.is).1
 
 pub returns-clause-does : goal.returns-clause-does
 returns-clause-does c =
-    subst (λ (h : HeapParts). PartsDo c.args.parts.now h (CopyRefs c.args.root c.args.i c.args.from c.args.j c.args.n) []) (sym c.copy_refs-2.ensures)
-    (copy_after c.args.parts.now c.remember_items.new.self c.place-target.result c.args.root c.args.i c.args.from c.args.j c.args.n c.requires c.place-target.ensures
-    c.if-target-lt-FIRST_OLD.false c.in_ok-remember_items.ensures.remembers).1
+    let now : HeapParts = c.args.parts.now in
+    let t = (target_sees c.args.parts.now c.args.root c.args.i c.args.from c.args.j c.args.n c.requires.ready c.args.found c.in-Some.target c.requires.found c.in-Some.is).0 in
+    let s = (source_sees c.args.parts.now c.args.root c.args.i c.args.from c.args.j c.args.n c.requires.ready c.args.source c.in-Some-source.seen c.requires.source c.in-Some-source.is).0 in
+    old_copied now c.remember_items.new.self c.copy_refs-2.new.parts c.args.root c.args.i c.args.from c.args.j c.args.n c.in-Some.target c.in-Some-source.seen c.requires.ready t s (high-at now c.args.root c.in-Some.target t c.if-target-lt-FIRST_OLD.false)
+    (remembered now c.remember_items.new.self c.args.root c.args.i c.args.n c.in-Some.target t c.in_ok-remember_items.ensures.remembers) c.copy_refs-2.ensures

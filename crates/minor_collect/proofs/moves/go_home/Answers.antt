@@ -12,6 +12,9 @@ use Rattle.minor_collect.proofs.moves.go_home.Goals as goal
 pub settled_header-head-requires-clause-object : goal.settled_header-head-requires-clause-object
 settled_header-head-requires-clause-object c = (can_go_home c.args.parts.now c.args.p c.args.n c.args.home c.requires.waits c.requires.home).object
 
+pub settled_header-head-requires-clause-words : goal.settled_header-head-requires-clause-words
+settled_header-head-requires-clause-words c = (can_go_home c.args.parts.now c.args.p c.args.n c.args.home c.requires.waits c.requires.home).size
+
 pub settled_header-head-requires-clause-block : goal.settled_header-head-requires-clause-block
 settled_header-head-requires-clause-block c = (can_go_home c.args.parts.now c.args.p c.args.n c.args.home c.requires.waits c.requires.home).block
 

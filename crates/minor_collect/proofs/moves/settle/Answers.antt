@@ -10,6 +10,10 @@ pub settled_header-head-requires-clause-object : goal.settled_header-head-requir
 settled_header-head-requires-clause-object c =
     let r = c.requires.waits in (can_move_words r.stage c.args.parts.now r.spot _ c.args.p c.args.n c.args.a _ r.middle (room_taken r.stage c.args.parts.now r.spot c.args.p c.args.n c.args.a r.middle r.waits c.requires.homeless) r.waits).object
 
+pub settled_header-head-requires-clause-words : goal.settled_header-head-requires-clause-words
+settled_header-head-requires-clause-words c =
+    let r = c.requires.waits in (can_move_words r.stage c.args.parts.now r.spot _ c.args.p c.args.n c.args.a _ r.middle (room_taken r.stage c.args.parts.now r.spot c.args.p c.args.n c.args.a r.middle r.waits c.requires.homeless) r.waits).size
+
 pub settled_header-head-requires-clause-block : goal.settled_header-head-requires-clause-block
 settled_header-head-requires-clause-block c =
     let r = c.requires.waits in (can_move_words r.stage c.args.parts.now r.spot _ c.args.p c.args.n c.args.a _ r.middle (room_taken r.stage c.args.parts.now r.spot c.args.p c.args.n c.args.a r.middle r.waits c.requires.homeless) r.waits).block

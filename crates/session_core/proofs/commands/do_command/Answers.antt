@@ -4,15 +4,15 @@ use Rattle.session_core.proofs.commands.do_command.Goals as goal
 
 pub returns-in-NewFixed : goal.returns-in-NewFixed
 returns-in-NewFixed c =
-    birth_ends c.args.heap.now c.new_fixed.new.self c.args.command.now _ c.args.out.now.items c.new_fixed.new.out.items c.new_fixed.result c.in-NewFixed.is refl c.requires.alive c.new_fixed.ensures.answers
+    birth_ends c.args.heap.now c.new_fixed_of.new.self c.args.command.now _ c.args.out.now.items c.new_fixed_of.new.out.items c.new_fixed_of.result c.in-NewFixed.is refl c.requires.alive c.new_fixed_of.ensures.answers
 
 pub returns-in-NewArray : goal.returns-in-NewArray
 returns-in-NewArray c =
-    birth_ends c.args.heap.now c.new_array.new.self c.args.command.now _ c.args.out.now.items c.new_array.new.out.items c.new_array.result c.in-NewArray.is refl c.requires.alive c.new_array.ensures.answers
+    birth_ends c.args.heap.now c.new_array_of.new.self c.args.command.now _ c.args.out.now.items c.new_array_of.new.out.items c.new_array_of.result c.in-NewArray.is refl c.requires.alive c.new_array_of.ensures.answers
 
 pub returns-in-NewWeak : goal.returns-in-NewWeak
 returns-in-NewWeak c =
-    birth_ends c.args.heap.now c.new_weak.new.self c.args.command.now _ c.args.out.now.items c.new_weak.new.out.items c.new_weak.result c.in-NewWeak.is refl c.requires.alive c.new_weak.ensures.answers
+    birth_ends c.args.heap.now c.new_weak_of.new.self c.args.command.now _ c.args.out.now.items c.new_weak_of.new.out.items c.new_weak_of.result c.in-NewWeak.is refl c.requires.alive c.new_weak_of.ensures.answers
 
 pub returns-in-Minor : goal.returns-in-Minor
 returns-in-Minor c =

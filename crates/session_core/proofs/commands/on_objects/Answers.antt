@@ -22,4 +22,4 @@ returns-in_ok-kept-in-Used-clause-performs c =
 
 pub returns-in-CopyRefs-clause-performs : goal.returns-in-CopyRefs-clause-performs
 returns-in-CopyRefs-clause-performs c =
-    quiet c.args.heap.now c.copy_refs.new.self c.args.command.now _ c.args.out.now.items c.copy_refs.result c.in-CopyRefs.is c.copy_refs.ensures.performs
+    quiet c.args.heap.now c.copy_refs_found.new.self c.args.command.now _ c.args.out.now.items c.copy_refs_found.result c.in-CopyRefs.is c.copy_refs_found.ensures.performs

@@ -1,10 +1,9 @@
 use Rattle.std.proofs.Common.{arith, ◌≢◌, ◌∙◌, ◌+◌, ◌*◌, ◌≤◌, sym, inl, inr, ap, ℕ}
 use Rattle.size_pages.specs.PageWords.{word_in}
-use Rattle.object_header.specs.Words.{has_flag}
+use Rattle.object_header.specs.Words.{has_flag, survives_sweep}
 use Rattle.object_header.specs.declared.flags.Flag.TheVariants.{Free}
 use Rattle.size_pages.proofs.GatherLaws.{swept_page, births_none, births_slot, births_end, slot_in, slot_birth, slot_word, slots_end}
-use Rattle.size_pages.specs.Sweeping.{is_dead}
-use Rattle.size_pages.proofs.Pages.gather_births.Goals.{then-not-is_set+then-is_dead+in_ok-push, else-not-is_set, else-not-is_set-via-then-not-is_set+else-is_dead, else-not-is_set-via-else-not-is_set}
+use Rattle.size_pages.proofs.Pages.gather_births.Goals.{then-not-is_set+then-not-survives_sweep+in_ok-push, else-not-is_set, else-not-is_set-via-then-not-is_set+else-not-survives_sweep, else-not-is_set-via-else-not-is_set}
 use Rattle.size_pages.proofs.Pages.gather_births.Goals as goal
 
 pub class-class-requires : goal.class-class-requires
@@ -38,9 +37,9 @@ loop-slot-preserved c =
     let flag = c.is_set.ensures ∙ ap (λ (k : ℕ). has_flag k Free) c.load-word.ensures in
     births_slot c.args.self.now c.args.space.now c.args.page c.class-class.result g.can c.class-class.ensures some c.loop-slot.slot c.args.freed.now.items c.loop-slot.freed.items c.if-not-is_set.freed.items (slot_in c.args.self.now c.args.space.now c.args.page c.class-class.result c.slots-count.result c.requires c.class-class.ensures c.slots-count.ensures c.loop-slot.slot c.loop-slot-test.true) c.loop-slot.invariant
     (elim c.if-not-is_set.branch [
-      | then-not-is_set+then-is_dead+in_ok-push w ↦ inr (inr (sym flag ∙ w.if-not-is_set.true, ap is_dead (sym c.load-word.ensures) ∙ sym w.is_dead.ensures ∙ w.if-is_dead.true, (cc (w.freed-is, w.in_ok-push.ensures.items, w.load.ensures))))
+      | then-not-is_set+then-not-survives_sweep+in_ok-push w ↦ inr (inr (sym flag ∙ w.if-not-is_set.true, ap survives_sweep (sym c.load-word.ensures) ∙ sym w.survives_sweep.ensures ∙ w.if-not-survives_sweep.true, (cc (w.freed-is, w.in_ok-push.ensures.items, w.load.ensures))))
       | else-not-is_set w ↦ elim w.else-not-is_set.branch [
-        | else-not-is_set-via-then-not-is_set+else-is_dead v ↦ inr (inl (sym flag ∙ v.if-not-is_set.true, ap is_dead (sym c.load-word.ensures) ∙ sym v.is_dead.ensures ∙ v.if-is_dead.false, (cc (w.freed-is))))
+        | else-not-is_set-via-then-not-is_set+else-not-survives_sweep v ↦ inr (inl (sym flag ∙ v.if-not-is_set.true, ap survives_sweep (sym c.load-word.ensures) ∙ sym v.survives_sweep.ensures ∙ v.if-not-survives_sweep.false, (cc (w.freed-is))))
         | else-not-is_set-via-else-not-is_set v ↦ inl (sym flag ∙ v.if-not-is_set.false, (cc (w.freed-is)))
       ]
     ])

@@ -2,7 +2,7 @@ use Rattle.std.proofs.Common.{◌≡◌, ◌∙◌, ℕ, ◌+◌, ◌<◌, ◌�
 use Rattle.heap_space.specs.Memory.{Memory}
 use Rattle.heap_space.specs.Places.{Placed, word_at, with_word}
 use Rattle.heap_space.specs.Seats.{IsSeat}
-use Rattle.heap_space.specs.declared.areas.Seat.{Seat}
+use Rattle.heap_space.specs.declared.runs.Seat.{Seat}
 use Rattle.heap_space.proofs.Blocks.{with_run-copy, with_run-copied, word_at-elsewhere}
 use Rattle.heap_space.proofs.Seats.{seat-with_word}
 use Rattle.heap_space.proofs.areas.Areas.copy_first_on.Invariants.{CopiesWords}

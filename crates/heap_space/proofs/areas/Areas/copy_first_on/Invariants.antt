@@ -2,7 +2,7 @@ use Rattle.std.proofs.Common.{◌≡◌, ℕ, ◌+◌, ◌-◌, ◌<◌, ◌≤�
 use Rattle.heap_space.specs.Memory.{Memory}
 use Rattle.heap_space.specs.Places.{word_at, run_at, with_run}
 use Rattle.heap_space.specs.Seats.{IsSeat}
-use Rattle.heap_space.specs.declared.areas.Seat.{Seat}
+use Rattle.heap_space.specs.declared.runs.Seat.{Seat}
 use Rattle.heap_space.proofs.areas.Areas.copy_first_on.Given as goal
 
 -- k of n words are copied

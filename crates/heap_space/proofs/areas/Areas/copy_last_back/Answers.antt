@@ -2,7 +2,7 @@ use Rattle.std.proofs.Common.{◌≡◌, ◌∙◌, ℕ, suc, ◌+◌, ◌-◌, 
 use Rattle.heap_space.specs.Memory.{Memory}
 use Rattle.heap_space.specs.Places.{Placed, word_at, with_word, with_run, run_at}
 use Rattle.heap_space.specs.Seats.{IsSeat}
-use Rattle.heap_space.specs.declared.areas.Seat.{Seat}
+use Rattle.heap_space.specs.declared.runs.Seat.{Seat}
 use Rattle.heap_space.proofs.Blocks.{with_run-nil, word_at-elsewhere, length-run_at}
 use Rattle.heap_space.proofs.LastWords.{run-last, run_at-last}
 use Rattle.heap_space.proofs.Seats.{seat-with_word}

@@ -3,7 +3,7 @@ use lib.ListN.{length-replicate}
 use Rattle.heap_space.specs.Memory.{Memory}
 use Rattle.heap_space.specs.Places.{Placed, with_word, with_run}
 use Rattle.heap_space.specs.Seats.{IsSeat}
-use Rattle.heap_space.specs.declared.areas.Seat.{Seat}
+use Rattle.heap_space.specs.declared.runs.Seat.{Seat}
 use Rattle.heap_space.proofs.Blocks.{with_run-fill, with_run-filled, with_run-nil}
 use Rattle.heap_space.proofs.Seats.{seat-with_word}
 use Rattle.heap_space.proofs.Fields.{run-in-nursery, nursery-areas, nursery-run}

@@ -2,7 +2,7 @@ use Rattle.std.proofs.Common.{◌≡◌, ℕ, ◌+◌, ◌-◌, ◌<◌, replica
 use Rattle.heap_space.specs.Memory.{Memory}
 use Rattle.heap_space.specs.Places.{with_run}
 use Rattle.heap_space.specs.Seats.{IsSeat}
-use Rattle.heap_space.specs.declared.areas.Seat.{Seat}
+use Rattle.heap_space.specs.declared.runs.Seat.{Seat}
 use Rattle.heap_space.proofs.areas.Areas.fill_zero.Given as goal
 
 -- k of n words are filled

@@ -1,24 +1,8 @@
-use Rattle.std.proofs.Common.{◌≡◌, ◌∙◌, ℕ, ◌+◌, ◌-◌, ◌*◌, ◌/◌, ◌%◌, ◌≤◌, List, sym, ap, subst, arith}
-use Rattle.std.proofs.Math.Nat.{div-add-mod}
-use Rattle.heap_space.specs.Memory.{Memory}
-use Rattle.heap_space.specs.Places.{Placed}
+use Rattle.std.proofs.Common.{◌∙◌, ℕ, ◌+◌, ◌-◌, ◌≤◌, sym, subst}
 use Rattle.heap_space.specs.Seats.{IsSeat}
-use Rattle.heap_space.proofs.Fields.{at-nursery, at-arena, at-larges, at-large}
+use Rattle.heap_space.proofs.Fields.{at-nursery, at-larges, at-large}
+use Rattle.heap_space.proofs.AreaWords.{arena_seat}
 use Rattle.heap_space.proofs.areas.Areas.seat.Goals as goal
-
--- the words of an arena are those that are seen
-number-is : (n : ℕ) {x y : Memory} {k : ℕ} → x ≡ y → k ≡ n / y.arena_words → k ≡ n / x.arena_words
-number-is n e f = f ∙ ap (λ (m : Memory). n / m.arena_words) (sym e)
-
--- what is left of a distance behind whole arenas
-rest_of : (n d k : ℕ) → k ≡ n / d → n - k * d ≡ n % d
-rest_of n d k e =
-    let whole : d * (n / d) + n % d ≡ n = div-add-mod n d in let turned : d * (n / d) ≡ (n / d) * d = grind arith in
-    ap (λ (j : ℕ). n - j * d) e ∙ omega (arith, whole, turned)
-
-arena_offset : (ps : List Placed) (a n d k : ℕ) → k ≡ n / d → IsSeat ps a (n / d + 1) (n % d) → IsSeat ps a (k + 1) (n - k * d)
-arena_offset ps a n d k e t =
-    subst (λ (o : ℕ). IsSeat ps a (k + 1) o) (sym (rest_of n d k e)) (subst (λ (j : ℕ). IsSeat ps a (j + 1) (n % d)) (sym e) t)
 
 pub overflow_sub-result : goal.overflow_sub-result
 overflow_sub-result c =
@@ -30,10 +14,8 @@ returns-then-a-lt-FIRST_ARENA c =
 
 pub returns-then-a-lt-FIRST_LARGE : goal.returns-then-a-lt-FIRST_LARGE
 returns-then-a-lt-FIRST_LARGE c =
-    let s = c.self.inside in let distance : ℕ = c.args.a - 4294967296 in
-    let number : c.arena_number-number.result ≡ distance / s.arena_words = number-is distance c.self.view_is c.arena_number-number.ensures in
-    arena_offset c.args.self.now.blocks c.args.a distance s.arena_words _ number
-    (at-arena s c.self.invariant _ c.self.view_is _ c.requires c.if-a-lt-FIRST_ARENA.false c.if-a-lt-FIRST_LARGE.true)
+    arena_seat c.self.inside c.self.invariant _ c.self.view_is _ c.requires c.if-a-lt-FIRST_ARENA.false c.if-a-lt-FIRST_LARGE.true _
+    c.arena_number-number.ensures
 
 pub large_index-index-requires-clause-held : goal.large_index-index-requires-clause-held
 large_index-index-requires-clause-held c =

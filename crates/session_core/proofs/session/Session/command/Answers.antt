@@ -1,7 +1,7 @@
 use Rattle.std.proofs.Common.{sym, ap, ◌∙◌}
 use Rattle.text_model.specs.declared.item.Item.TheVariants.{Command as CommandItem}
 use Rattle.session_core.specs.Standing.{fault_told}
-use Rattle.session_core.proofs.Items.{can_do, does_command, leaves_item, found_begun}
+use Rattle.session_core.proofs.Items.{can_do, does_command, leaves_item, found_begun, source_begun, type_begun}
 use Rattle.session_core.proofs.Collecting.{answers_fault, fails_alive}
 use Rattle.session_core.proofs.session.Session.command.Goals as goal
 
@@ -32,3 +32,11 @@ do_command-requires-clause-can c =
 pub do_command-requires-clause-found : goal.do_command-requires-clause-found
 do_command-requires-clause-found c =
     c.requires.found ∙ sym (found_begun c.args.self.now c.begin.new.self c.args.heap.now c.begin.new.heap c.args.command.now c.in-Ok.ensures.begins)
+
+pub do_command-requires-clause-source : goal.do_command-requires-clause-source
+do_command-requires-clause-source c =
+    c.requires.source ∙ sym (source_begun c.args.self.now c.begin.new.self c.args.heap.now c.begin.new.heap c.args.command.now c.in-Ok.ensures.begins)
+
+pub do_command-requires-clause-info : goal.do_command-requires-clause-info
+do_command-requires-clause-info c =
+    c.requires.info ∙ sym (type_begun c.args.self.now c.begin.new.self c.args.heap.now c.begin.new.heap c.args.command.now c.in-Ok.ensures.begins)

@@ -1,6 +1,7 @@
 use Rattle.std.proofs.Common.{sym, ap, ◌∙◌, refl}
 use Rattle.text_model.specs.declared.item.Item.{Item}
-use Rattle.session_core.specs.Finding.{found_by}
+use Rattle.session_core.specs.Finding.{found_by, source_by, type_by}
+use Rattle.session_core.specs.Standing.{setup_of}
 use Rattle.session_core.proofs.Looks.{refusal_is}
 use Rattle.session_core.proofs.Items.{does_blank, setting_accepted, does_setting, does_type, leaves_item}
 use Rattle.session_core.proofs.session.Session.item.Goals as goal
@@ -44,8 +45,11 @@ returns-in-Err-add_type c = record {
       leaves_item c.args.self.now c.add_type.new.self c.args.heap.now c.args.heap.now p c.args.item.now c.args.out.now.items _ refl c.in-Err-add_type.ensures.err refl at;
 }
 
-pub refusal-requires-clause-kind : goal.refusal-requires-clause-kind
-refusal-requires-clause-kind c = c.kind_found.ensures ∙ c.found-found.ensures.kind
-
 pub command-requires-clause-found : goal.command-requires-clause-found
-command-requires-clause-found c = c.found-found.ensures.value ∙ ap (λ (item : Item). found_by c.args.heap.now item) c.in-Command.is
+command-requires-clause-found c = c.looked-looked.ensures.found ∙ ap (λ (item : Item). found_by c.args.heap.now item) c.in-Command.is
+
+pub command-requires-clause-source : goal.command-requires-clause-source
+command-requires-clause-source c = c.looked-looked.ensures.source ∙ ap (λ (item : Item). source_by c.args.heap.now item) c.in-Command.is
+
+pub command-requires-clause-info : goal.command-requires-clause-info
+command-requires-clause-info c = c.looked-looked.ensures.info ∙ ap (λ (item : Item). type_by (setup_of c.args.self.now c.args.heap.now) item) c.in-Command.is

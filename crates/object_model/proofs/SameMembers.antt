@@ -7,8 +7,7 @@ use Rattle.std.proofs.lemmas.Bool.{cases_Bool}
 use Rattle.std.proofs.lemmas.Bool.Decides.{eqb_tells}
 use Rattle.std.proofs.lemmas.List.Sorted.{IsPermutation-refl, IsPermutation-cons, IsPermutation-middle, IsPermutation-trans, IsPermutation-sym}
 use Rattle.object_model.proofs.Members.{is_in-head, is_in-tail, is_in-cases, is_in-nil, in-either, in-left, in-right, false-in, not-in, is_in-named}
-use Rattle.object_model.specs.Sets.{is_in}
-use Rattle.minor_collect.specs.Ending.{DoDiffer}
+use Rattle.object_model.specs.Sets.{is_in, AreDifferent}
 
 -- a list with x in it, taken apart
 pub record IsSplit (x : ℕ) (ys : List ℕ) : Type 0 where
@@ -28,7 +27,7 @@ nil-same [] same = refl
 nil-same (y ∷ ys) same = absurd (is_in-nil y (same y (is_in-head y ys)))
 
 -- the rest differs still, and x is not in it
-differ-drop : (x : ℕ) (fs ls : List ℕ) → DoDiffer (fs ++ x ∷ ls) → DoDiffer (fs ++ ls) × (is_in x (fs ++ ls) ≡ false)
+differ-drop : (x : ℕ) (fs ls : List ℕ) → AreDifferent (fs ++ x ∷ ls) → AreDifferent (fs ++ ls) × (is_in x (fs ++ ls) ≡ false)
 differ-drop x [] ls d = (d.1, d.0)
 differ-drop x (f ∷ fs) ls d =
     let more = differ-drop x fs ls d.1 in (
@@ -45,12 +44,12 @@ differ-drop x (f ∷ fs) ls d =
       ]),
     )
 
-pub same_members : (xs ys : List ℕ) → DoDiffer xs → DoDiffer ys → ((x : ℕ) → IsTrue (is_in x xs) → IsTrue (is_in x ys))
+pub same_members : (xs ys : List ℕ) → AreDifferent xs → AreDifferent ys → ((x : ℕ) → IsTrue (is_in x xs) → IsTrue (is_in x ys))
     → ((y : ℕ) → IsTrue (is_in y ys) → IsTrue (is_in y xs)) → IsPermutation xs ys
 same_members [] ys dx dy to from = subst (IsPermutation []) (sym (nil-same ys from)) (IsPermutation-refl [])
 same_members (x ∷ xs) ys dx dy to from =
     let s = split-at x ys (to x (is_in-head x xs)) in
-    let d = differ-drop x s.front s.back (subst DoDiffer s.is dy) in
+    let d = differ-drop x s.front s.back (subst AreDifferent s.is dy) in
     let middle : IsPermutation (s.front ++ x ∷ s.back) (x ∷ (s.front ++ s.back)) = IsPermutation-middle s.front x s.back in
     let rest : IsPermutation xs (s.front ++ s.back) = same_members xs (s.front ++ s.back) dx.1 d.0
     (λ k t. let u = subst (λ (l : List ℕ). IsTrue (is_in k l)) s.is (to k (is_in-tail k x xs t)) in elim (in-either k s.front (x ∷ s.back) u) [
@@ -84,13 +83,13 @@ all-not x (y ∷ ys) all = false-in x (y ∷ ys) (λ t. elim (is_in-cases x y ys
     ]
 
 -- names that differ are those of places that differ
-pub names_differ : (name : ℕ → ℕ) (ps : List ℕ) → IsDistinct nat_eq (map name ps) → DoDiffer ps
+pub names_differ : (name : ℕ → ℕ) (ps : List ℕ) → IsDistinct nat_eq (map name ps) → AreDifferent ps
 unfolding IsDistinct
 names_differ name [] d = tt
 names_differ name (p ∷ ps) d = (false-in p ps (λ t. not-in (name p) (map name ps) (all-not (name p) (map name ps) d.0) (is_in-named name p ps t)), names_differ name ps d.1)
 
 -- and so is each part of them
-pub part_differs : (test : ℕ → Bool) (ps : List ℕ) → DoDiffer ps → DoDiffer (filter test ps)
+pub part_differs : (test : ℕ → Bool) (ps : List ℕ) → AreDifferent ps → AreDifferent (filter test ps)
 part_differs test [] d = tt
 part_differs test (p ∷ ps) d = elim (cases_Bool (test p)) [
   | inl e ↦ rw e (false-in p (filter test ps) (λ t. not-in p ps d.0 (in-part test p ps t)), part_differs test ps d.1)
