@@ -18,13 +18,13 @@ use store_model::{Command, Line};
 pub(crate) fn do_command(
     heap: &mut Heap,
     command: &Command,
-    looked: Looked,
+    looked: &Looked,
     out: &mut Vec<Line>,
 ) -> Result<(), HeapFault>
     requires can { CanDo heap.old command.now }
-    requires found { looked.found ≡ found_for heap.old command.now }
-    requires source { looked.source ≡ source_for heap.old command.now }
-    requires info { looked.info ≡ of_births (type_found heap.old.parts) command.now }
+    requires found { looked.now.found ≡ found_for heap.old command.now }
+    requires source { looked.now.source ≡ source_for heap.old command.now }
+    requires info { looked.now.info ≡ of_births (type_found heap.old.parts) command.now }
     requires alive { heap.old.is_spent ≡ false }
     ensures { EndsCommand command.now heap.old heap.new out.old.items out.new.items result }
 {
@@ -49,12 +49,12 @@ pub(crate) fn do_command(
 fn do_at_once(
     heap: &mut Heap,
     command: &Command,
-    looked: Looked,
+    looked: &Looked,
     out: &mut Vec<Line>,
 ) -> Result<(), HeapFault>
     requires can { CanDo heap.old command.now }
-    requires found { looked.found ≡ found_for heap.old command.now }
-    requires source { looked.source ≡ source_for heap.old command.now }
+    requires found { looked.now.found ≡ found_for heap.old command.now }
+    requires source { looked.now.source ≡ source_for heap.old command.now }
     requires alive { heap.old.is_spent ≡ false }
     requires rest { may_collect command.now ≡ false }
     ensures performs { OnOk result (Performs heap.old heap.new command.now out.old.items out.new.items) }
@@ -70,12 +70,12 @@ fn do_at_once(
 fn on_objects(
     heap: &mut Heap,
     command: &Command,
-    looked: Looked,
+    looked: &Looked,
     out: &mut Vec<Line>,
 ) -> Result<(), HeapFault>
     requires can { CanDo heap.old command.now }
-    requires found { looked.found ≡ found_for heap.old command.now }
-    requires source { looked.source ≡ source_for heap.old command.now }
+    requires found { looked.now.found ≡ found_for heap.old command.now }
+    requires source { looked.now.source ≡ source_for heap.old command.now }
     requires alive { heap.old.is_spent ≡ false }
     requires room { vec_len out.old < vec_capacity out.old }
     requires rest { may_collect command.now ≡ false }

@@ -26,11 +26,11 @@ use type_table::MAX_TYPES;
 impl Session {
     /// The first reason for which the program refuses an item, if it does. `looked` tells of what it works on.
     #[tactic(auto, unfolding(store_model::specs::Refusal::refusal_seen))]
-    pub(crate) fn refusal(&self, heap: &Heap, item: &Item, looked: Looked) -> Option<Reason>
+    pub(crate) fn refusal(&self, heap: &Heap, item: &Item, looked: &Looked) -> Option<Reason>
         requires placed { IsPlaced self.now heap.now }
-        requires kind { option_map kind_of looked.found ≡ kind_by (seen_if self.now.types heap.now) item.now }
-        requires source { option_map kind_of looked.source ≡ source_kind_by (seen_if self.now.types heap.now) item.now }
-        requires info { looked.info ≡ type_by (setup_of self.now heap.now) item.now }
+        requires kind { option_map kind_of looked.now.found ≡ kind_by (seen_if self.now.types heap.now) item.now }
+        requires source { option_map kind_of looked.now.source ≡ source_kind_by (seen_if self.now.types heap.now) item.now }
+        requires info { looked.now.info ≡ type_by (setup_of self.now heap.now) item.now }
         ensures { result ≡ refusal_of self.now heap.now item.now }
     {
         match *item {
@@ -74,11 +74,11 @@ impl Session {
     }
 
     /// The first reason for which a command is refused, if it is.
-    fn command_refusal(&self, heap: &Heap, command: &Command, looked: Looked) -> Option<Reason>
+    fn command_refusal(&self, heap: &Heap, command: &Command, looked: &Looked) -> Option<Reason>
         requires placed { IsPlaced self.now heap.now }
-        requires kind { option_map kind_of looked.found ≡ kind_for (seen_if self.now.types heap.now) command.now }
-        requires source { option_map kind_of looked.source ≡ source_kind_for (seen_if self.now.types heap.now) command.now }
-        requires info { looked.info ≡ type_for (setup_of self.now heap.now) command.now }
+        requires kind { option_map kind_of looked.now.found ≡ kind_for (seen_if self.now.types heap.now) command.now }
+        requires source { option_map kind_of looked.now.source ≡ source_kind_for (seen_if self.now.types heap.now) command.now }
+        requires info { looked.now.info ≡ type_for (setup_of self.now heap.now) command.now }
         ensures { result ≡ first_reason (command_checks (setup_of self.now heap.now) (seen_if self.now.types heap.now) command.now) }
     {
         if command.is_above() {

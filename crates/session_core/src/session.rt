@@ -132,7 +132,7 @@ impl Session {
         ensures answers { (at : Progress) → StandsAt self.old heap.old at → Answers at item.now self.new heap.new out.old.items out.new.items result }
     {
         let looked = self.looked(heap, item);
-        if let Some(reason) = self.refusal(heap, item, looked) {
+        if let Some(reason) = self.refusal(heap, item, &looked) {
             return Err(RunFault::Malformed(reason));
         }
         match *item {
@@ -145,7 +145,7 @@ impl Session {
                 Ok(()) => Ok(()),
                 Err(_) => Err(RunFault::OutOfMemory),
             },
-            Item::Command(command) => self.command(heap, &command, looked, out),
+            Item::Command(command) => self.command(heap, &command, &looked, out),
         }
     }
 
@@ -154,13 +154,13 @@ impl Session {
         &mut self,
         heap: &mut Heap,
         command: &Command,
-        looked: Looked,
+        looked: &Looked,
         out: &mut Vec<Line>,
     ) -> Result<(), RunFault>
         requires placed { IsPlaced self.old heap.old }
-        requires found { looked.found ≡ found_for heap.old command.now }
-        requires source { looked.source ≡ source_for heap.old command.now }
-        requires info { looked.info ≡ type_for (setup_of self.old heap.old) command.now }
+        requires found { looked.now.found ≡ found_for heap.old command.now }
+        requires source { looked.now.source ≡ source_for heap.old command.now }
+        requires info { looked.now.info ≡ type_for (setup_of self.old heap.old) command.now }
         requires accepted { refusal_of self.old heap.old (CommandItem command.now) ≡ None }
         ensures { (at : Progress) → StandsAt self.old heap.old at →
             Answers at (CommandItem command.now) self.new heap.new out.old.items out.new.items result }
