@@ -33,8 +33,6 @@ impl Session {
 
     /// What an item of the script is done with, if it is not refused: what is seen of the objects on which it works, and the type of
     /// a birth.
-    // Out of line: the answer is then written once, where the caller has room for it, and lent from there.
-    #[inline(never)]
     pub(crate) fn looked(&self, heap: &Heap, item: &Item) -> Looked
         requires { IsPlaced self.now heap.now }
         ensures found { result.found ≡ found_by heap.now item.now }
