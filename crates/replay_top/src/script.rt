@@ -11,7 +11,7 @@ use crate::line::{Stop, do_item};
 use heap_core::Heap;
 use heap_io::{Failed, Files, Sink};
 use script_convert::{ScriptReader, UnitEnd};
-use script_text::Bytes;
+use script_text::{Bytes, LONGEST_LINE};
 use session_core::Session;
 use std::alloc::Global;
 
@@ -62,7 +62,7 @@ fn do_units<F: Files, K: Sink>(
 {
     let mut lines = Vec::new(alloc);
     let mut text = Vec::new(alloc);
-    let mut line = [0; 200];
+    let mut line = [0; LONGEST_LINE];
     let mut number = 0;
     'units: loop {
         match reader.next(number, files, &mut line) {

@@ -9,7 +9,7 @@ use crate::end::ConvertEnd;
 use crate::reader::{ScriptReader, UnitEnd};
 use crate::write::{write_all, write_unit};
 use heap_io::{Failed, Files, Sink};
-use script_text::Bytes;
+use script_text::{Bytes, LONGEST_LINE};
 use std::alloc::Global;
 
 /// The bytes with which a binary script begins.
@@ -93,7 +93,7 @@ fn convert_units<F: Files, K: Sink>(
     ensures read_later { F.faults files.old ≤ F.faults files.new }
     ensures write_later { K.faults out.old ≤ K.faults out.new }
 {
-    let mut line = [0; 200];
+    let mut line = [0; LONGEST_LINE];
     let mut number = 0;
     'units: loop {
         match reader.next(number, files, &mut line) {

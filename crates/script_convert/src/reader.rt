@@ -8,7 +8,7 @@ ghost use Rattle.script_convert.specs.Reader.{HandedOut, HandedLines, HandedReco
 
 use heap_io::{Failed, Files};
 use script_binary::{BinEnd, BinReader};
-use script_text::{Bytes, LineReader, ReadEnd, parse_line};
+use script_text::{Bytes, LONGEST_LINE, LineReader, ReadEnd, parse_line};
 use text_model::{BadLine, Item, Reason};
 
 /// Why no further unit is read.
@@ -60,7 +60,7 @@ impl ScriptReader {
         &mut self,
         number: u64,
         files: &mut F,
-        line: &mut [u8; 200],
+        line: &mut [u8; LONGEST_LINE],
     ) -> Result<Option<Item>, UnitEnd>
         requires may { MayRead self.old (F.rest files.old) number }
         requires few { number ≤ 16000000 }
@@ -81,7 +81,7 @@ fn next_line<F: Files>(
     reader: &mut LineReader,
     number: u64,
     files: &mut F,
-    line: &mut [u8; 200],
+    line: &mut [u8; LONGEST_LINE],
 ) -> Result<Option<Item>, UnitEnd>
     requires may { MayReadLine reader.old (F.rest files.old) number }
     requires few { number ≤ 16000000 }

@@ -8,7 +8,7 @@ ghost use Rattle.script_text.specs.Mark.{TestsMark, BreaksMark, ReadsBehind};
 ghost use Rattle.script_text.specs.Reading.{HasReadCause};
 ghost use Rattle.script_text.specs.Taking.{Refills, GivesByte, TakesByte, IsLineOf, IsEndOfLine};
 
-use crate::reader::ReadEnd;
+use crate::reader::{LONGEST_LINE, ReadEnd};
 use heap_io::{Failed, Files};
 use std::alloc::{AllocError, Global};
 use std::marker::Model;
@@ -106,9 +106,9 @@ impl Bytes {
         }
     }
 
-    /// Takes the line at the front with its LF, where the bytes that were read hold it and it has at most 200 bytes. Its bytes
-    /// are put into the front of `line`, and the answer is its length. Else it takes nothing.
-    pub(crate) fn held_line(&mut self, line: &mut [u8; 200]) -> Option<usize>
+    /// Takes the line at the front with its LF, where the bytes that were read hold it and it is no longer than a line may be. Its
+    /// bytes are put into the front of `line`, and the answer is its length. Else it takes nothing.
+    pub(crate) fn held_line(&mut self, line: &mut [u8; LONGEST_LINE]) -> Option<usize>
         ensures line { IfSome result (λ n. IsLineOf line.new n) }
         ensures taken { IfSome result (λ n. self.old ≡ take n line.new ++ 10 ∷ self.new) }
         ensures none { IfNone result (self.new ≡ self.old) }
@@ -117,7 +117,7 @@ impl Bytes {
         let Some(length) = line_length(held) else {
             return None;
         };
-        if length > 200 {
+        if length > LONGEST_LINE {
             return None;
         }
         line[..length].copy_from_slice(&held[..length]);

@@ -21,5 +21,5 @@ pub use items::print_item;
 pub use numbers::parse_number;
 pub use parse::parse_line;
 pub use ranges::{item_number, own_number, slot_number, type_number};
-pub use reader::{LineReader, ReadEnd};
+pub use reader::{LONGEST_LINE, LineReader, ReadEnd};
 pub use text_model::{BadLine, Command, Item};

@@ -20,8 +20,8 @@ const LF: u8 = b'\n';
 /// The greatest number of lines of a script.
 const MAX_LINES: u64 = 16_000_000;
 
-/// The greatest number of bytes of a line, without its LF.
-const MAX_LENGTH: usize = 200;
+/// The greatest number of bytes of a line, without its LF. (This project's own.)
+pub const LONGEST_LINE: usize = 200;
 
 /// Why no further line is read.
 #[derive(Clone, Copy, Debug, PartialEq, Eq)]
@@ -103,7 +103,7 @@ impl LineReader {
     pub fn next<F: Files>(
         &mut self,
         files: &mut F,
-        line: &mut [u8; 200],
+        line: &mut [u8; LONGEST_LINE],
     ) -> Result<Option<usize>, ReadEnd>
         requires { IsInStep self.old (F.rest files.old) }
         ensures reads { Reads self.old self.new (F.rest files.old) (F.rest files.new) line.new result }
@@ -154,7 +154,7 @@ enum Taken {
 fn take_line<F: Files>(
     piece: &mut Bytes,
     files: &mut F,
-    line: &mut [u8; 200],
+    line: &mut [u8; LONGEST_LINE],
 ) -> Result<Taken, ReadEnd>
     ensures taken { let before = prepend_known piece.old (F.rest files.old) in
         let after = prepend_known piece.new (F.rest files.new) in
@@ -174,7 +174,7 @@ fn take_line<F: Files>(
 fn take_bytes<F: Files>(
     piece: &mut Bytes,
     files: &mut F,
-    line: &mut [u8; 200],
+    line: &mut [u8; LONGEST_LINE],
 ) -> Result<Taken, ReadEnd>
     ensures taken { let before = prepend_known piece.old (F.rest files.old) in
         let after = prepend_known piece.new (F.rest files.new) in
@@ -184,7 +184,7 @@ fn take_bytes<F: Files>(
     ensures bytes { F.bytes files.new ≡ F.bytes files.old }
     ensures may_begin { F.may_begin files.new ≡ F.may_begin files.old }
 {
-    for length in 0..MAX_LENGTH {
+    for length in 0..LONGEST_LINE {
         match piece.next_byte(files)? {
             None if length == 0 => return Ok(Taken::Nothing),
             None => return Ok(Taken::Last(length)),
@@ -193,8 +193,8 @@ fn take_bytes<F: Files>(
         }
     }
     match piece.next_byte(files)? {
-        None => Ok(Taken::Last(MAX_LENGTH)),
-        Some(LF) => Ok(Taken::Whole(MAX_LENGTH)),
+        None => Ok(Taken::Last(LONGEST_LINE)),
+        Some(LF) => Ok(Taken::Whole(LONGEST_LINE)),
         Some(_) => Err(ReadEnd::TooLong),
     }
 }
